@@ -1,0 +1,3 @@
+pub mod Grammar
+pub mod Calls
+pub mod Demand3

@@ -1,0 +1,4 @@
+pub mod Products
+pub mod Sync
+pub mod Sectors
+pub mod Rules

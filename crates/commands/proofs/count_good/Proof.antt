@@ -1,0 +1,37 @@
+use native.Mathlib.Omega.{arith}
+use Rattle.commands.proofs.Products.{product-fits}
+use Rattle.commands.specs.Begin.{counted}
+use native.Mathlib.Nat.{mul-le-mul-left}
+use borrow.Author.Needs.{needs}
+use Rattle.commands.proofs.count_good.Statement.{statement}
+use Rattle.commands.proofs.count_good.Tie as tie
+
+cast-all : tie.Need-cast-all
+cast-all c = search needs
+
+cast-all-2 : tie.Need-cast-all-2
+cast-all-2 c = search needs
+
+mul-all : tie.Need-mul-all
+mul-all c = product-fits (omega arith) (omega arith)
+
+cast-size : tie.Need-cast-size
+cast-size c = search needs
+
+cast-both : tie.Need-cast-both
+cast-both c = search needs
+
+add-both : tie.Need-add-both
+add-both c = search needs
+
+both-requires : tie.Need-both-requires
+both-requires c κs = search needs
+
+returns : tie.Need-returns
+unfolding counted
+returns c = cc
+
+pub count-good-spec : {M : Type 1} → statement M
+count-good-spec =
+    tie.close
+    (tie.spec cast-all cast-all-2 mul-all cast-size cast-both add-both both-requires returns)

@@ -1,0 +1,21 @@
+use Rattle.commands.specs.Parameters.{inWords}
+use native.Mathlib.Numerals.{add-one}
+use borrow.Author.Needs.{needs}
+use Rattle.commands.proofs.in_words.Statement.{statement}
+use Rattle.commands.proofs.in_words.Tie as tie
+
+add-up-to-end : tie.Need-add-up-to-end
+add-up-to-end c = search needs
+
+up-to-end-requires : tie.Need-up-to-end-requires
+up-to-end-requires c κs = search needs
+
+both-requires : tie.Need-both-requires
+both-requires c κs = search needs
+
+returns : tie.Need-returns
+unfolding inWords
+returns c = cc (add-one (c .before .before .args .address))
+
+pub in-words-spec : {M : Type 1} → statement M
+in-words-spec = tie.close (tie.spec add-up-to-end up-to-end-requires both-requires returns)

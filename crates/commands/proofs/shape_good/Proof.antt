@@ -1,0 +1,20 @@
+use Rattle.commands.specs.Header.{shaped, bodyLength}
+use borrow.Author.Needs.{needs}
+use Rattle.commands.proofs.shape_good.Statement.{statement}
+use Rattle.commands.proofs.shape_good.Tie as tie
+
+size-told-requires : tie.Need-size-told-requires
+size-told-requires c κs = search needs
+
+past-requires : tie.Need-past-requires
+past-requires c κs = search needs
+
+both-requires : tie.Need-both-requires
+both-requires c κs = search needs
+
+returns : tie.Need-returns
+unfolding shaped
+returns c = cc
+
+pub shape-good-spec : {M : Type 1} → statement M
+shape-good-spec = tie.close (tie.spec size-told-requires past-requires both-requires returns)

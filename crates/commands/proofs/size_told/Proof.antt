@@ -1,0 +1,20 @@
+use Rattle.commands.specs.Header.{sized, bodyLength}
+use borrow.Author.Needs.{needs}
+use Rattle.commands.proofs.size_told.Statement.{statement}
+use Rattle.commands.proofs.size_told.Tie as tie
+
+half-at-requires : tie.Need-half-at-requires
+half-at-requires c κs = search needs
+
+cast-result : tie.Need-cast-result
+cast-result c = search needs
+
+past-requires : tie.Need-past-requires
+past-requires c κs = search needs
+
+returns : tie.Need-returns
+unfolding sized
+returns c = cc
+
+pub size-told-spec : {M : Type 1} → statement M
+size-told-spec = tie.close (tie.spec half-at-requires cast-result past-requires returns)

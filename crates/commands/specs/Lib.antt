@@ -1,0 +1,4 @@
+pub mod Header
+pub mod Begin
+pub mod Block
+pub mod Parameters

@@ -1,0 +1,14 @@
+use borrow.Author.Needs.{needs}
+use Rattle.fields.specs.Pins.{attachGood}
+use Rattle.fields.proofs.attach_good.Statement.{statement}
+use Rattle.fields.proofs.attach_good.Tie as tie
+
+fields-good-requires : tie.Need-fields-good-requires
+fields-good-requires c κs = search needs
+
+returns : tie.Need-returns
+unfolding attachGood
+returns c = rw (c .fields-good .ensures)
+
+pub attach-good-spec : {M : Type 1} → statement M
+attach-good-spec = tie.close (tie.spec fields-good-requires returns)

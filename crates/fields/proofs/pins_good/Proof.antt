@@ -1,0 +1,34 @@
+use borrow.Author.Needs.{needs}
+use Rattle.fields.specs.Pins.{pinsGood}
+use Rattle.fields.proofs.pins_good.Statement.{statement}
+use Rattle.fields.proofs.pins_good.Tie as tie
+
+pin-good-requires : tie.Need-pin-good-requires
+pin-good-requires c κs = search needs
+
+pin-good-requires-2 : tie.Need-pin-good-requires-2
+pin-good-requires-2 c κs = search needs
+
+pin-good-requires-3 : tie.Need-pin-good-requires-3
+pin-good-requires-3 c κs = search needs
+
+pin-good-requires-4 : tie.Need-pin-good-requires-4
+pin-good-requires-4 c κs = search needs
+
+pin-good-requires-5 : tie.Need-pin-good-requires-5
+pin-good-requires-5 c κs = search needs
+
+returns : tie.Need-returns
+unfolding pinsGood
+returns c = cc
+
+pub pins-good-spec : {M : Type 1} → statement M
+pins-good-spec =
+    tie.close
+    (tie.spec
+    pin-good-requires
+    pin-good-requires-2
+    pin-good-requires-3
+    pin-good-requires-4
+    pin-good-requires-5
+    returns)

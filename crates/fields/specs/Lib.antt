@@ -1,0 +1,5 @@
+pub mod Words
+pub mod Checksum
+pub mod Merge
+pub mod Pins
+pub mod Theorems

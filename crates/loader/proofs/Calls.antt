@@ -1,0 +1,186 @@
+-- The ways through a call: refused, a byte taken, a packet dropped, failed or carried out.
+use Prim.Native.Nat.{ℕ, _≤_, _<_}
+use mathlib.Core.Path.{_≡_, refl, sym, ap, _∙_}
+use mathlib.Core.List.{List, [], _∷_, _++_}
+use mathlib.Core.Bool.{Bool, true, false, cond, _&&_}
+use mathlib.Core.Option.{Option, none, some}
+use native.Mathlib.Omega.{arith}
+use borrow.Author.Tests.{leb-true, eq-eqb, ne-eqb}
+use lib.Dec.{leb, eqb}
+use lib.ListN.{length, take, getD}
+use lib.Seq.{length-take-le}
+use Rattle.rooms.specs.Checks.{first, _orElse_}
+use Rattle.rooms.proofs.Tests.{both, Passed, first-passed}
+use Rattle.framing.specs.Frame.{longest}
+use Rattle.framing.specs.Packets.{Packet, dropped, read, header}
+use Rattle.framing.specs.Line.{stepOf, Steps}
+use Rattle.framing.specs.declared.Line.{Line}
+use Rattle.framing.specs.declared.Stepped.{Stepped}
+use Rattle.framing.specs.declared.Closing.{Closing}
+use Rattle.framing.specs.declared.Closing.the-variants.{Open, Whole, Broken}
+use Rattle.framing.proofs.Steps.{step-held, step-length}
+use Rattle.commands.specs.Header.{command}
+use Rattle.loader.specs.Session.{sessionGood}
+use Rattle.loader.specs.Refusals.{Rooms, lentOf, flashLength, wordCount, roomChecks, recordGood, refusal}
+use Rattle.loader.specs.Errors.{errorOf}
+use Rattle.loader.specs.Answer.{answerBytes}
+use Rattle.loader.specs.Handle.{Core, lent, carriedOut, failed, handle, replied}
+use Rattle.loader.specs.Step.{Step, Feeds, step, refusing, afterByte, closing, coreOf, roomsOf, answerRoom, toldOf, told}
+use Rattle.loader.specs.Parts.{classified, Ready, Does, Replies, Acts}
+use Rattle.loader.specs.declared.Loader.{Loader}
+use Rattle.loader.specs.declared.Note.the-variants.{Nothing}
+use Rattle.loader.specs.declared.Answer.the-variants.{Refused, Taken, Dropped, Answered}
+use Rattle.loader.specs.declared.Fed.{Fed}
+use Rattle.loader.specs.declared.Done.{Done}
+use Rattle.loader.specs.declared.Packet.the-variants as code
+use Rattle.loader.specs.declared.Packet as code-packet
+
+-- ---- a whole packet
+
+-- a whole packet is dropped, or read as itself
+headed : (p : List ℕ) (t : Bool) (n : ℕ) → classified (cond t (read p) dropped) ≡ code.Read n
+    → (cond t (read p) dropped ≡ read p) × (n ≡ command p)
+headed p true n e = (refl, cc)
+headed p false n e = let z : _≡_ {A = ℕ} 0 1 = cc in absurd (omega arith)
+
+unheaded : (p : List ℕ) (t : Bool) → classified (cond t (read p) dropped) ≡ code.Dropped → cond t (read p) dropped ≡ dropped
+unheaded p true e = let z : _≡_ {A = ℕ} 0 1 = cc in absurd (omega arith)
+unheaded p false e = refl
+
+module _
+    (loader : Loader) (p room flash words : List ℕ) (x : code-packet.Packet) (is : x ≡ classified (header (some p))) where
+  pub acts-dropped :
+      x ≡ code.Dropped
+      → Acts (handle (coreOf loader flash words) (header (some p))) loader (length p) room
+      (record { answer = Dropped (length p); loader = loader }) room flash words
+  unfolding handle toldOf answerRoom header
+  acts-dropped e =
+      rw (unheaded p (leb 8 (length p) && eqb (getD p 0 0) 0) (sym is ∙ e))
+      (record { says = refl; hands-back = refl; answer-room = refl; in-flash = refl; in-words = refl })
+
+  module _ (n error sent : ℕ) (after : List ℕ) (e : x ≡ code.Read n)
+      (judged : error ≡ errorOf (lent (coreOf loader flash words)) (loader .session) p) where
+    packet-read : (header (some p) ≡ read p) × (n ≡ command p)
+    unfolding header
+    packet-read = headed p (leb 8 (length p) && eqb (getD p 0 0) 0) n (sym is ∙ e)
+
+    pub acts-failed :
+        (error ≡ 0 → ⊥) → Replies (answerBytes n error 0) room sent after
+        → Acts (handle (coreOf loader flash words) (header (some p))) loader (length p) room
+        (record { answer = Answered (length p) n error sent Nothing; loader = loader }) after flash words
+    unfolding handle failed toldOf answerRoom
+    acts-failed bad r =
+        rw (packet-read .0, ← judged, ne-eqb error 0 bad, ← (packet-read .1))
+        (record { says = rw (r .sent); hands-back = refl; answer-room = r .room; in-flash = refl; in-words = refl })
+
+    pub acts-done :
+        (done : Done) (flash′ words′ : List ℕ) → error ≡ 0
+        → Does (carriedOut (coreOf loader flash words) p) (command p) done flash′ words′
+        → Replies (answerBytes n 0 (done .value)) room sent after
+        → Acts (handle (coreOf loader flash words) (header (some p))) loader (length p) room
+        (record {
+          answer = Answered (length p) n 0 sent (done .note);
+          loader = record { line = loader .line; session = done .session; attach = done .attach };
+        }) after flash′ words′
+    unfolding handle toldOf answerRoom
+    acts-done done flash′ words′ good d r =
+        rw (packet-read .0, ← judged, eq-eqb error 0 good)
+        (record {
+          says = rw (d .reply, r .sent, packet-read .1);
+          hands-back = rw (d .session, d .attach);
+          answer-room = rw (d .reply, ← (packet-read .1)) (r .room);
+          in-flash = d .in-flash;
+          in-words = d .in-words;
+        })
+
+-- ---- a call
+
+-- what no refusal leaves to doubt
+pub record Allowed (r : Loader) (rooms : Rooms) : Type 0 where
+  pub for-packet : longest ≤ rooms .packet
+  pub for-answer : 22 ≤ rooms .answer
+  pub for-words : rooms .words ≤ 16384
+  pub held : r .line .held ≤ longest
+  pub session : sessionGood (lentOf rooms) (r .session) ≡ true
+
+pub allowed : (r : Loader) (rooms : Rooms) → refusal r rooms ≡ 0 → Allowed r rooms
+unfolding refusal roomChecks wordCount recordGood
+allowed r rooms e =
+    let t : Passed (roomChecks rooms ++ (recordGood (lentOf rooms) r orElse 5 ∷ [])) = first-passed _ refl e in
+    let w = both (leb 1 (rooms .words)) _ (t .1 .1 .1 .0) in
+    let g = both (leb (r .line .held) longest) _ (t .1 .1 .1 .1 .0) in
+    let s = both (sessionGood (lentOf rooms) (r .session)) _ (g .1) in
+    record {
+      for-packet = leb-true _ _ (t .0);
+      for-answer = leb-true _ _ (t .1 .0);
+      for-words = leb-true _ _ (w .1);
+      held = leb-true _ _ (g .0);
+      session = s .0;
+    }
+
+module _
+    (loader : Loader) (b : ℕ) (packet answer flash words : List ℕ) (n : ℕ)
+    (judged : n ≡ refusal loader (roomsOf packet answer flash words)) where
+  pub refused :
+      (n ≡ 0 → ⊥)
+      → Feeds (step loader b packet answer flash words) (record { answer = Refused n; loader = loader }) packet answer flash words
+  unfolding step refusing
+  refused bad =
+      rw (← judged, ne-eqb n 0 bad)
+      (record
+      { says = refl; hands-back = refl; packet-room = refl; answer-room = refl; in-flash = refl; in-words = refl })
+
+  module _ (good : n ≡ 0) (packet′ : List ℕ) (s : Stepped) (stepped : Steps (stepOf (loader .line) b packet) s packet′) where
+    abbrev next : Loader
+    next = record { line = s .line; session = loader .session; attach = loader .attach }
+
+    going-on :
+        (r : Fed) (a f w : List ℕ) → Feeds (afterByte (s .closing) (s .line) loader packet′ answer flash words) r packet′ a f w
+        → Feeds (step loader b packet answer flash words) r packet′ a f w
+    unfolding step
+    going-on r a f w h = rw (← judged, eq-eqb n 0 good, ← (stepped .answer), ← (stepped .room)) h
+
+    pub byte-taken :
+        s .closing ≡ Open
+        → Feeds (step loader b packet answer flash words) (record { answer = Taken; loader = next }) packet′ answer flash words
+    unfolding afterByte
+    byte-taken e =
+        going-on _ _ _ _
+        (rw e
+        (record
+        { says = refl; hands-back = refl; packet-room = refl; answer-room = refl; in-flash = refl; in-words = refl }))
+
+    pub packet-broken :
+        (m : ℕ) → s .closing ≡ Broken m
+        → Feeds (step loader b packet answer flash words) (record { answer = Dropped m; loader = next }) packet′ answer flash words
+    unfolding afterByte closing handle header toldOf answerRoom
+    packet-broken m e =
+        going-on _ _ _ _
+        (rw e
+        (record
+        { says = refl; hands-back = refl; packet-room = refl; answer-room = refl; in-flash = refl; in-words = refl }))
+
+    -- a whole packet has as many bytes as the line held, and they are in the room
+    pub whole-fits : (m : ℕ) → s .closing ≡ Whole m → length packet′ ≡ length packet → m ≤ length packet′
+    whole-fits m e long =
+        let a = allowed loader (roomsOf packet answer flash words) (sym judged ∙ good) in
+        let h : m ≡ loader .line .held = step-held (loader .line) b packet m (ap (λ (q : Stepped). q .closing) (sym (stepped .answer)) ∙ e) in
+        omega arith
+
+    pub packet-acted :
+        (m : ℕ) (r : Fed) (a f w : List ℕ) → s .closing ≡ Whole m → m ≤ length packet′
+        → Acts (handle (coreOf next flash words) (header (some (take m packet′)))) next (length (take m packet′)) answer r a f w
+        → Feeds (step loader b packet answer flash words) r packet′ a f w
+    unfolding afterByte closing
+    packet-acted m r a f w e fits h =
+        let q : length (take m packet′) ≡ m = length-take-le m packet′ fits in
+        going-on r a f w
+        (rw e
+        (record {
+          says = rw q at (h .says);
+          hands-back = h .hands-back;
+          packet-room = refl;
+          answer-room = h .answer-room;
+          in-flash = h .in-flash;
+          in-words = h .in-words;
+        }))

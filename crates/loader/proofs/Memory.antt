@@ -1,0 +1,36 @@
+-- Words packed from bytes, one after the other.
+use Prim.Native.Nat.{ℕ, zero, suc, _+_, _*_, _≤_, _<_}
+use mathlib.Core.Path.{_≡_, refl, sym, ap, _∙_}
+use mathlib.Core.List.{List, [], _∷_, _++_}
+use native.Mathlib.Nat.{add-assoc}
+use native.Mathlib.Numerals.{add-one}
+use native.Mathlib.Omega.{arith}
+use lib.ListN.{length, set, drop, getD, length-append}
+use lib.Seq.{getD-drop}
+use Rattle.rooms.specs.Lay.{lay}
+use Rattle.rooms.proofs.Laws.{lay-more}
+use Rattle.fields.specs.Words.{word}
+use Rattle.commands.specs.Block.{payload}
+use Rattle.loader.specs.Effects.{wordsOf}
+
+pub length-words : (s : List ℕ) (n : ℕ) → length (wordsOf s n) ≡ n
+unfolding wordsOf
+length-words s zero = refl
+length-words s (suc n) = rw (length-append (wordsOf s n)) (omega (arith, length-words s n))
+
+-- a word of the data, read in the packet
+word-of-data : (p : List ℕ) (i : ℕ) → word (payload p) i ≡ word p (24 + i)
+unfolding word payload
+word-of-data p i =
+    rw (getD-drop 24 p i 0, getD-drop 24 p (i + 1) 0, getD-drop 24 p (i + 2) 0, getD-drop 24 p (i + 3) 0)
+    (simp add-assoc)
+
+-- one turn of the loop that packs
+pub packed-next :
+    (ws p : List ℕ) (at i v : ℕ) → at + i < length ws → v ≡ word p (24 + 4 * i)
+    → set (lay ws at (wordsOf (payload p) i)) (at + i) v ≡ lay ws at (wordsOf (payload p) (i + 1))
+unfolding wordsOf
+packed-next ws p at i v h e =
+    let n : length (wordsOf (payload p) i) ≡ i = length-words (payload p) i in
+    let k : at + length (wordsOf (payload p) i) < length ws = omega arith in
+    rw (add-one i, word-of-data p (4 * i), ← e) (rw n at (lay-more ws at (wordsOf (payload p) i) v k))

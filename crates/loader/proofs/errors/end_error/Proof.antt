@@ -1,0 +1,39 @@
+use Rattle.loader.specs.Errors.{endChecks}
+use Rattle.rooms.specs.Checks.{first}
+use borrow.Author.Needs.{needs}
+use Rattle.loader.proofs.errors.end_error.Statement.{statement}
+use Rattle.loader.proofs.errors.end_error.Tie as tie
+
+announced-by-requires : tie.Need-announced-by-requires
+announced-by-requires c κs = search needs
+
+accepted-by-requires : tie.Need-accepted-by-requires
+accepted-by-requires c κs = search needs
+
+check-requires : tie.Need-check-requires
+check-requires c κs = search needs
+
+check-requires-2 : tie.Need-check-requires-2
+check-requires-2 c κs = search needs
+
+check-requires-3 : tie.Need-check-requires-3
+check-requires-3 c κs = search needs
+
+check-requires-4 : tie.Need-check-requires-4
+check-requires-4 c κs = search needs
+
+returns : tie.Need-returns
+unfolding endChecks first
+returns c = cc
+
+pub end-error-spec : {M : Type 1} → statement M
+end-error-spec =
+    tie.close
+    (tie.spec
+    announced-by-requires
+    accepted-by-requires
+    check-requires
+    check-requires-2
+    check-requires-3
+    check-requires-4
+    returns)

@@ -1,0 +1,30 @@
+use Prim.Native.Nat.{_<_}
+use lib.ListN.{length}
+use Rattle.loader.specs.Effects.{valueAfter}
+use mathlib.Core.Path.{refl, _≡_}
+use Rattle.fields.specs.Words.{word}
+use Rattle.commands.specs.Parameters.{place}
+use Rattle.loader.proofs.Registers.{placed}
+use borrow.Author.Needs.{needs}
+use Rattle.loader.proofs.read_register.Statement.{statement}
+use Rattle.loader.proofs.read_register.Tie as tie
+
+word-at-requires : tie.Need-word-at-requires
+word-at-requires c κs = search needs
+
+place-of-requires : tie.Need-place-of-requires
+place-of-requires c κs = search needs
+
+mul-result : tie.Need-mul-result
+mul-result c = let h : c .place-of .result < length (c .before .before .before .before .args .words .now) = placed _ _ _ _ (c .place-of .ensures) (c .before .word-at .ensures) (c .before .before .before .before .pre) in search needs
+
+slice-read-result : tie.Need-slice-read-result
+slice-read-result c = placed _ _ _ _ (c .before .place-of .ensures) (c .before .before .word-at .ensures) (c .before .before .before .before .before .pre)
+
+returns : tie.Need-returns
+unfolding valueAfter
+returns c = (rw (c .before .place-of .ensures, c .before .before .word-at .ensures), refl)
+
+pub read-register-spec : {M : Type 1} → statement M
+read-register-spec =
+    tie.close (tie.spec word-at-requires place-of-requires mul-result slice-read-result returns)

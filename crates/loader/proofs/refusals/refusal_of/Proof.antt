@@ -1,0 +1,47 @@
+use Rattle.loader.specs.Refusals.{refusal, roomChecks}
+use Rattle.rooms.specs.Checks.{first}
+use borrow.Author.Needs.{needs}
+use Rattle.loader.proofs.refusals.refusal_of.Statement.{statement}
+use Rattle.loader.proofs.refusals.refusal_of.Tie as tie
+
+flash-length-good-requires : tie.Need-flash-length-good-requires
+flash-length-good-requires c κs = search needs
+
+word-count-good-requires : tie.Need-word-count-good-requires
+word-count-good-requires c κs = search needs
+
+record-good-requires : tie.Need-record-good-requires
+record-good-requires c κs = search needs
+
+check-requires : tie.Need-check-requires
+check-requires c κs = search needs
+
+check-requires-2 : tie.Need-check-requires-2
+check-requires-2 c κs = search needs
+
+check-requires-3 : tie.Need-check-requires-3
+check-requires-3 c κs = search needs
+
+check-requires-4 : tie.Need-check-requires-4
+check-requires-4 c κs = search needs
+
+check-requires-5 : tie.Need-check-requires-5
+check-requires-5 c κs = search needs
+
+returns : tie.Need-returns
+unfolding refusal roomChecks first
+returns c = cc
+
+pub refusal-of-spec : {M : Type 1} → statement M
+refusal-of-spec =
+    tie.close
+    (tie.spec
+    flash-length-good-requires
+    word-count-good-requires
+    record-good-requires
+    check-requires
+    check-requires-2
+    check-requires-3
+    check-requires-4
+    check-requires-5
+    returns)

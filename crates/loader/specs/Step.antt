@@ -1,0 +1,116 @@
+-- What one call comes to: its answer, the next record, and each lent room afterwards, for every input.
+use Prim.Native.Nat.{ℕ}
+use mathlib.Core.Path.{_≡_}
+use mathlib.Core.List.{List}
+use mathlib.Core.Bool.{cond}
+use mathlib.Core.Option.{Option, none, some}
+use lib.ListN.{length, take}
+use lib.Dec.{eqb}
+use Rattle.rooms.specs.Lay.{lay}
+use Rattle.framing.specs.Frame.{framed}
+use Rattle.framing.specs.Packets.{Packet, header}
+use Rattle.framing.specs.Line.{stepOf}
+use Rattle.framing.specs.Run.{fresh}
+use Rattle.framing.specs.declared.Line.{Line}
+use Rattle.framing.specs.declared.Closing.{Closing}
+use Rattle.framing.specs.declared.Closing.the-variants.{Open, Whole, Broken}
+use Rattle.loader.specs.Refusals.{Rooms, refusal}
+use Rattle.loader.specs.Answer.{statusOf, answerBytes}
+use Rattle.loader.specs.Handle.{Core, Reply, nothing, replied, Handled, handle}
+use Rattle.loader.specs.declared.Loader.{Loader}
+use Rattle.loader.specs.declared.Session.the-variants.{Closed}
+use Rattle.loader.specs.declared.Note.{Note}
+use Rattle.loader.specs.declared.Answer.{Answer}
+use Rattle.loader.specs.declared.Answer.the-variants as code
+use Rattle.loader.specs.declared.Fed.{Fed}
+
+-- what a call tells: a refusal by its number; a byte taken; a closed packet with the number of stored bytes, dropped, or read with its command, status and error, how many bytes of answer were written, and what the caller is to do
+pub data Told : Type 0 where
+  refused : ℕ → Told
+  taken : Told
+  dropped : (stored : ℕ) → Told
+  answered : (stored command status error sent : ℕ) → Note → Told
+
+abbrev pub told : Answer → Told
+told (code.Refused n) = refused n
+told code.Taken = taken
+told (code.Dropped n) = dropped n
+told (code.Answered n c e sent note) = answered n c (statusOf e) e sent note
+
+-- the record that a start begins with
+abbrev pub freshLoader : Loader
+freshLoader = record { line = fresh; session = Closed; attach = 0 }
+
+pub record Step : Type 0 where
+  pub told : Told
+  pub loader : Loader
+  pub packet : List ℕ
+  pub answer : List ℕ
+  pub flash : List ℕ
+  pub words : List ℕ
+
+-- a refused call: "the record comes back the same and no lent room changes"
+unfoldable pub refusing : ℕ → Loader → List ℕ → List ℕ → List ℕ → List ℕ → Step
+refusing n r packet answer flash words =
+    record { told = refused n; loader = r; packet = packet; answer = answer; flash = flash; words = words }
+
+-- "On both lines what is sent, framed, fills the front of answer room; the rest, or all of it without an answer, stays."
+unfoldable pub answerRoom : Reply → List ℕ → List ℕ
+answerRoom nothing room = room
+answerRoom (replied c e v note) room = lay room 0 (framed (answerBytes c e v))
+
+unfoldable pub toldOf : ℕ → Reply → Told
+toldOf stored nothing = dropped stored
+toldOf stored (replied c e v note) = answered stored c (statusOf e) e (length (framed (answerBytes c e v))) note
+
+-- a call that closed a packet, which was handled
+unfoldable pub closing : Line → ℕ → Handled → List ℕ → List ℕ → Step
+closing l stored h packet room =
+    record {
+      told = toldOf stored (h .reply);
+      loader = record { line = l; session = h .core .session; attach = h .core .attach };
+      packet = packet;
+      answer = answerRoom (h .reply) room;
+      flash = h .core .flash;
+      words = h .core .words;
+    }
+
+abbrev pub coreOf : Loader → List ℕ → List ℕ → Core
+coreOf r flash words = record { session = r .session; attach = r .attach; flash = flash; words = words }
+
+-- after the byte step: nothing closed, or a packet, whole or broken
+unfoldable pub afterByte : Closing → Line → Loader → List ℕ → List ℕ → List ℕ → List ℕ → Step
+afterByte Open l r packet answer flash words =
+    record {
+      told = taken;
+      loader = record { line = l; session = r .session; attach = r .attach };
+      packet = packet;
+      answer = answer;
+      flash = flash;
+      words = words;
+    }
+afterByte (Whole n) l r packet answer flash words =
+    closing l n (handle (coreOf r flash words) (header (some (take n packet)))) packet answer
+afterByte (Broken n) l r packet answer flash words =
+    closing l n (handle (coreOf r flash words) (header none)) packet answer
+
+-- the lengths of what a call lends
+abbrev pub roomsOf : List ℕ → List ℕ → List ℕ → List ℕ → Rooms
+roomsOf packet answer flash words =
+    record { packet = length packet; answer = length answer; flash = length flash; words = length words }
+
+unfoldable pub step : Loader → ℕ → List ℕ → List ℕ → List ℕ → List ℕ → Step
+step r b packet answer flash words =
+    cond (eqb (refusal r (roomsOf packet answer flash words)) 0)
+    (afterByte (stepOf (r .line) b packet .answer .closing) (stepOf (r .line) b packet .answer .line) r
+    (stepOf (r .line) b packet .room) answer flash words)
+    (refusing (refusal r (roomsOf packet answer flash words)) r packet answer flash words)
+
+-- the call's answer, the record that it hands back and each lent room at exit are those of s
+pub record Feeds (s : Step) (r : Fed) (packet answer flash words : List ℕ) : Type 0 where
+  pub says : told (r .answer) ≡ s .told
+  pub hands-back : r .loader ≡ s .loader
+  pub packet-room : packet ≡ s .packet
+  pub answer-room : answer ≡ s .answer
+  pub in-flash : flash ≡ s .flash
+  pub in-words : words ≡ s .words

@@ -1,0 +1,58 @@
+// Refusals 1 to 5.
+use crate::Loader;
+use crate::sessions::session_good;
+use commands::Lent;
+use rooms::both;
+use rooms::check;
+ghost use mathlib.Core.Path.{_≡_};
+ghost use Rattle.loader.specs.Refusals.{flashLength, wordCount, recordGood, refusal};
+
+fn flash_length_good(n: usize) -> bool
+    ensures { λ r. ⌜ r ≡ flashLength n ⌝ }
+{
+    both(1 <= n, both(n % 4096 == 0, n <= 4194304))
+}
+
+fn word_count_good(n: usize) -> bool
+    ensures { λ r. ⌜ r ≡ wordCount n ⌝ }
+{
+    both(1 <= n, n <= 16384)
+}
+
+fn record_good(lent: Lent, loader: Loader) -> bool
+    ensures { λ r. ⌜ r ≡ recordGood lent loader ⌝ }
+{
+    let line = loader.line;
+    let session = loader.session;
+    both(
+        line.held <= 4120,
+        both(
+            session_good(lent, session),
+            fields::attach_good(loader.attach),
+        ),
+    )
+}
+
+// The number that a call is refused with, by its record and the lengths of its rooms; 0 where it is not.
+pub fn refusal_of(loader: Loader, packet: usize, answer: usize, flash: usize, words: usize) -> u8
+    ensures { λ r. ⌜ r ≡ refusal loader (record { packet = packet; answer = answer; flash = flash; words = words }) ⌝ }
+{
+    let lent = Lent { flash, words };
+    check(
+        4120 <= packet,
+        1,
+        check(
+            22 <= answer,
+            2,
+            check(
+                flash_length_good(flash),
+                3,
+                check(
+                    word_count_good(words),
+                    4,
+                    check(record_good(lent, loader), 5, 0),
+                ),
+            ),
+        ),
+    )
+}
