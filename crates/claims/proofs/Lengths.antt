@@ -1,26 +1,24 @@
 -- No packet makes a record that refusal 5 would find broken, and none changes the length of flash or words.
-use mathlib.Core.Path.{_≡_, refl, sym, _∙_}
+use mathlib.Core.Path.{_≡_, refl}
 use mathlib.Core.List.{List}
-use mathlib.Core.Bool.{true, false, _&&_}
-use Prim.Native.Nat.{ℕ, zero, suc, _+_, _-_, _*_, _/_, _%_, _≤_, _<_, min}
+use mathlib.Core.Bool.{true, false}
+use Prim.Native.Nat.{ℕ, _+_, _-_, _*_, _/_, _≤_, _<_, min}
 use native.Mathlib.Omega.{arith}
-use borrow.Author.Tests.{ltb-true, leb-true, eqb-true, le-leb}
-use lib.Dec.{leb, ltb, eqb}
-use lib.ListN.{length, length-append, length-take, length-drop, length-replicate, length-set}
+use borrow.Author.Tests.{le-leb}
+use lib.ListN.{length, length-append, length-take, length-replicate, length-set}
 use Rattle.rooms.proofs.Laws.{length-lay}
 use Rattle.rooms.proofs.Tests.{absurd-test, both, Passed}
-use Rattle.fields.specs.Words.{word}
 use Rattle.fields.specs.Pins.{attachGood}
 use Rattle.framing.specs.Packets.{Packet, dropped, read}
-use Rattle.commands.specs.Header.{command, sized, dataShaped}
-use Rattle.commands.specs.Begin.{beginOf, roundUp, counted, flashRule, memoryRule, memoryStart, memoryEnd, reached}
+use Rattle.commands.specs.Header.{command}
+use Rattle.commands.specs.Begin.{beginOf, flashRule, memoryRule, memoryStart, reached}
 use Rattle.commands.specs.declared.Lent.{Lent}
 use Rattle.commands.specs.Block.{payload}
 use Rattle.commands.specs.Parameters.{place}
 use Rattle.commands.specs.declared.Begin.{Begin}
 use Rattle.loader.specs.Session.{flashOpen, memoryOpen, announced, accepted, advanced, sessionGood}
 use Rattle.loader.specs.Errors.{Kind, kind, flash-begin, flash-data, flash-end, memory-begin, memory-end, memory-data, sync, write-reg, read-reg, spi-attach, unknown, plainChecks, checks}
-use Rattle.loader.specs.Effects.{sessionAfter, flashBlock, flashAfter, wordsOf, wordsBlock, wordsAfter, attachAfter}
+use Rattle.loader.specs.Effects.{sessionAfter, flashBlock, flashAfter, wordsBlock, wordsAfter, attachAfter}
 use Rattle.loader.specs.Handle.{Core, lent, carriedOut, failed, handle}
 use Rattle.loader.specs.declared.Session.{Session}
 use Rattle.loader.specs.declared.Session.the-variants.{Closed, Flash, Memory}

@@ -1,32 +1,30 @@
 -- The ways through a call: refused, a byte taken, a packet dropped, failed or carried out.
-use Prim.Native.Nat.{ℕ, _≤_, _<_}
+use Prim.Native.Nat.{ℕ, _≤_}
 use mathlib.Core.Path.{_≡_, refl, sym, ap, _∙_}
 use mathlib.Core.List.{List, [], _∷_, _++_}
 use mathlib.Core.Bool.{Bool, true, false, cond, _&&_}
-use mathlib.Core.Option.{Option, none, some}
+use mathlib.Core.Option.{some}
 use native.Mathlib.Omega.{arith}
 use borrow.Author.Tests.{leb-true, eq-eqb, ne-eqb}
 use lib.Dec.{leb, eqb}
 use lib.ListN.{length, take, getD}
 use lib.Seq.{length-take-le}
-use Rattle.rooms.specs.Checks.{first, _orElse_}
+use Rattle.rooms.specs.Checks.{_orElse_}
 use Rattle.rooms.proofs.Tests.{both, Passed, first-passed}
 use Rattle.framing.specs.Frame.{longest}
 use Rattle.framing.specs.Packets.{Packet, dropped, read, header}
 use Rattle.framing.specs.Line.{stepOf, Steps}
-use Rattle.framing.specs.declared.Line.{Line}
 use Rattle.framing.specs.declared.Stepped.{Stepped}
-use Rattle.framing.specs.declared.Closing.{Closing}
 use Rattle.framing.specs.declared.Closing.the-variants.{Open, Whole, Broken}
-use Rattle.framing.proofs.Steps.{step-held, step-length}
+use Rattle.framing.proofs.Steps.{step-held}
 use Rattle.commands.specs.Header.{command}
 use Rattle.loader.specs.Session.{sessionGood}
-use Rattle.loader.specs.Refusals.{Rooms, lentOf, flashLength, wordCount, roomChecks, recordGood, refusal}
+use Rattle.loader.specs.Refusals.{Rooms, lentOf, wordCount, roomChecks, recordGood, refusal}
 use Rattle.loader.specs.Errors.{errorOf}
 use Rattle.loader.specs.Answer.{answerBytes}
-use Rattle.loader.specs.Handle.{Core, lent, carriedOut, failed, handle, replied}
-use Rattle.loader.specs.Step.{Step, Feeds, step, refusing, afterByte, closing, coreOf, roomsOf, answerRoom, toldOf, told}
-use Rattle.loader.specs.Parts.{classified, Ready, Does, Replies, Acts}
+use Rattle.loader.specs.Handle.{lent, carriedOut, failed, handle}
+use Rattle.loader.specs.Step.{Feeds, step, refusing, afterByte, closing, coreOf, roomsOf, answerRoom, toldOf}
+use Rattle.loader.specs.Parts.{classified, Does, Replies, Acts}
 use Rattle.loader.specs.declared.Loader.{Loader}
 use Rattle.loader.specs.declared.Note.the-variants.{Nothing}
 use Rattle.loader.specs.declared.Answer.the-variants.{Refused, Taken, Dropped, Answered}

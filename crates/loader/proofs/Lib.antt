@@ -1,3 +1,4 @@
+pub mod Theorems
 pub mod Calls
 pub mod Carried
 pub mod Checks

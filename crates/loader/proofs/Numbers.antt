@@ -1,14 +1,12 @@
 -- The error of a packet, by its command's number.
 use Prim.Native.Nat.{ℕ}
-use mathlib.Core.Path.{_≡_, refl, sym, _∙_}
+use mathlib.Core.Path.{_≡_, sym, _∙_}
 use mathlib.Core.List.{List}
-use mathlib.Core.Bool.{Bool, false, cond}
 use borrow.Author.Tests.{ne-eqb}
-use lib.Dec.{eqb}
 use Rattle.rooms.specs.Checks.{first}
 use Rattle.commands.specs.Header.{command}
 use Rattle.commands.specs.declared.Lent.{Lent}
-use Rattle.loader.specs.Errors.{Kind, kind, unknown, checks, errorOf}
+use Rattle.loader.specs.Errors.{kind, checks, errorOf}
 use Rattle.loader.specs.declared.Session.{Session}
 
 pub error-at :

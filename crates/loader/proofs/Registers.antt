@@ -1,8 +1,7 @@
 -- The place of a register that a packet names.
 use Prim.Native.Nat.{ℕ, _<_}
-use mathlib.Core.Path.{_≡_, sym, ap, _∙_}
+use mathlib.Core.Path.{_≡_}
 use mathlib.Core.List.{List}
-use lib.ListN.{length}
 use Rattle.fields.specs.Words.{word}
 use Rattle.commands.specs.Parameters.{place}
 

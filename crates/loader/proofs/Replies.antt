@@ -1,11 +1,11 @@
 -- An answer of ten bytes always fits an answer room of 22, framed.
 use Prim.Native.Nat.{ℕ, _≤_}
-use mathlib.Core.Path.{_≡_, refl, sym, ap, _∙_}
+use mathlib.Core.Path.{_≡_}
 use mathlib.Core.List.{List}
 use native.Mathlib.Omega.{arith}
 use lib.ListN.{length}
 use Rattle.rooms.specs.Lay.{lay}
-use Rattle.framing.specs.Frame.{framed, framing, Frames, Told, refused, wrote, told}
+use Rattle.framing.specs.Frame.{framed, framing, Frames, refused, wrote, told}
 use Rattle.framing.specs.declared.Framed.{Framed}
 use Rattle.framing.specs.declared.Framed.the-variants.{Written, Refused}
 use Rattle.framing.proofs.Refusals.{framed-written}

@@ -3,7 +3,7 @@ use mathlib.Core.List.{List, [], _∷_, _++_}
 use mathlib.Core.Bool.{cond}
 use Prim.Native.Nat.{ℕ, zero, suc, _+_, _-_, _*_, _/_}
 use lib.Dec.{eqb}
-use lib.ListN.{length, take, getD, set, replicate}
+use lib.ListN.{take, getD, set, replicate}
 use Rattle.rooms.specs.Lay.{lay}
 use Rattle.fields.specs.Words.{word}
 use Rattle.fields.specs.Merge.{merged}

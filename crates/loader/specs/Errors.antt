@@ -1,6 +1,6 @@
 -- The errors of a read command, in the order of checks: document 01's table.
 use mathlib.Core.List.{List, [], _∷_}
-use mathlib.Core.Bool.{Bool, true, false, cond}
+use mathlib.Core.Bool.{Bool, false, cond}
 use Prim.Native.Nat.{ℕ}
 use lib.Dec.{ltb, eqb}
 use Rattle.rooms.specs.Checks.{Check, _orElse_, first}

@@ -6,3 +6,4 @@ pub mod Answer
 pub mod Handle
 pub mod Step
 pub mod Parts
+pub mod Theorems

@@ -8,7 +8,6 @@ use Rattle.rooms.specs.Lay.{lay}
 use Rattle.framing.specs.Frame.{framed}
 use Rattle.framing.specs.Packets as packets
 use Rattle.commands.specs.Header.{command}
-use Rattle.commands.specs.declared.Lent.{Lent}
 use Rattle.loader.specs.Session.{sessionGood}
 use Rattle.loader.specs.Handle.{Handled, replied}
 use Rattle.loader.specs.Step.{told, toldOf, answerRoom}

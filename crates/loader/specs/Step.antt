@@ -3,12 +3,12 @@ use Prim.Native.Nat.{ℕ}
 use mathlib.Core.Path.{_≡_}
 use mathlib.Core.List.{List}
 use mathlib.Core.Bool.{cond}
-use mathlib.Core.Option.{Option, none, some}
+use mathlib.Core.Option.{none, some}
 use lib.ListN.{length, take}
 use lib.Dec.{eqb}
 use Rattle.rooms.specs.Lay.{lay}
 use Rattle.framing.specs.Frame.{framed}
-use Rattle.framing.specs.Packets.{Packet, header}
+use Rattle.framing.specs.Packets.{header}
 use Rattle.framing.specs.Line.{stepOf}
 use Rattle.framing.specs.Run.{fresh}
 use Rattle.framing.specs.declared.Line.{Line}

@@ -1,7 +1,6 @@
 use native.Mathlib.Omega.{arith}
 use Rattle.commands.proofs.Products.{product-fits}
 use Rattle.commands.specs.Begin.{counted}
-use native.Mathlib.Nat.{mul-le-mul-left}
 use borrow.Author.Needs.{needs}
 use Rattle.commands.proofs.count_good.Statement.{statement}
 use Rattle.commands.proofs.count_good.Tie as tie

@@ -1,4 +1,4 @@
-use Rattle.commands.specs.Header.{dataShaped, bodyLength}
+use Rattle.commands.specs.Header.{dataShaped}
 use borrow.Author.Needs.{needs}
 use Rattle.commands.proofs.data_shape_good.Statement.{statement}
 use Rattle.commands.proofs.data_shape_good.Tie as tie

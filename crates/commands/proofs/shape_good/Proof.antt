@@ -1,4 +1,4 @@
-use Rattle.commands.specs.Header.{shaped, bodyLength}
+use Rattle.commands.specs.Header.{shaped}
 use borrow.Author.Needs.{needs}
 use Rattle.commands.proofs.shape_good.Statement.{statement}
 use Rattle.commands.proofs.shape_good.Tie as tie

@@ -1,4 +1,4 @@
-use Rattle.commands.specs.Header.{sized, bodyLength}
+use Rattle.commands.specs.Header.{sized}
 use borrow.Author.Needs.{needs}
 use Rattle.commands.proofs.size_told.Statement.{statement}
 use Rattle.commands.proofs.size_told.Tie as tie

@@ -1,8 +1,6 @@
 use Rattle.commands.proofs.Sync.{too-short}
 use native.Mathlib.Omega.{arith}
 use Rattle.commands.specs.Parameters.{syncRule}
-use Rattle.rooms.proofs.Lists.{same-lengths}
-use lib.ListN.{length-take, length-drop}
 use borrow.Author.Needs.{needs}
 use Rattle.commands.proofs.sync_good.Statement.{statement}
 use Rattle.commands.proofs.sync_good.Tie as tie

@@ -1,7 +1,7 @@
 use Rattle.loader.specs.Errors.{kind}
 use Rattle.loader.specs.Effects.{sessionAfter, attachAfter, flashAfter, wordsAfter, valueAfter, noteAfter}
 use Rattle.loader.proofs.Carried.{flash-ready, memory-ready, written-place, read-place, does-at, does-none, leaves}
-use mathlib.Core.Path.{_≡_, refl, sym, _∙_}
+use mathlib.Core.Path.{refl}
 use native.Mathlib.Omega.{arith}
 use borrow.Author.Needs.{needs}
 use Rattle.loader.proofs.carry_out.Statement.{statement}

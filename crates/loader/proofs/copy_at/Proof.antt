@@ -1,13 +1,11 @@
-use Prim.Native.Nat.{ℕ, _+_, _-_, _≤_, _<_}
-use mathlib.Core.Path.{_≡_, refl, sym, ap, _∙_}
-use mathlib.Core.List.{List}
-use native.Mathlib.Nat.{zero-add, sub-self}
+use Prim.Native.Nat.{_-_, _≤_}
+use mathlib.Core.Path.{_≡_, refl, sym}
 use native.Mathlib.Omega.{arith}
 use borrow.Author.Needs.{needs}
-use lib.ListN.{length, take, getD, replicate, length-set, length-replicate}
+use lib.ListN.{length, take, length-set}
 use lib.Seq.{take-all}
 use Rattle.rooms.specs.Lay.{lay}
-use Rattle.rooms.proofs.Laws.{lay-nil, lay-next, lay-fill, lay-whole}
+use Rattle.rooms.proofs.Laws.{lay-nil, lay-next}
 use Rattle.loader.proofs.copy_at.Statement.{statement}
 use Rattle.loader.proofs.copy_at.Tie as tie
 

@@ -1,4 +1,4 @@
-use mathlib.Core.Path.{_≡_, refl, sym, _∙_}
+use mathlib.Core.Path.{sym, _∙_}
 use lib.Seq.{length-take-le}
 use Rattle.loader.proofs.Calls.{allowed, refused, byte-taken, packet-broken, whole-fits, packet-acted}
 use borrow.Author.Needs.{needs}

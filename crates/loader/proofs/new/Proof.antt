@@ -1,4 +1,3 @@
-use mathlib.Core.Path.{refl}
 use borrow.Author.Needs.{needs}
 use Rattle.loader.proofs.new.Statement.{statement}
 use Rattle.loader.proofs.new.Tie as tie

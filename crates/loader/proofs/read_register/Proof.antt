@@ -1,9 +1,7 @@
 use Prim.Native.Nat.{_<_}
 use lib.ListN.{length}
 use Rattle.loader.specs.Effects.{valueAfter}
-use mathlib.Core.Path.{refl, _≡_}
-use Rattle.fields.specs.Words.{word}
-use Rattle.commands.specs.Parameters.{place}
+use mathlib.Core.Path.{refl}
 use Rattle.loader.proofs.Registers.{placed}
 use borrow.Author.Needs.{needs}
 use Rattle.loader.proofs.read_register.Statement.{statement}

@@ -1,12 +1,9 @@
 use Rattle.commands.proofs.Sectors.{reaches}
 use Rattle.loader.proofs.Reach.{copy-fits, erase-fits, block-written}
-use Prim.Native.Nat.{ℕ, _+_, _-_, _≤_}
-use mathlib.Core.Path.{_≡_, refl, sym}
+use Prim.Native.Nat.{_-_}
+use mathlib.Core.Path.{refl}
 use native.Mathlib.Omega.{arith}
-use lib.ListN.{length, take, drop, length-drop}
-use lib.Seq.{length-take-le}
-use Rattle.commands.specs.Begin.{roundUp, reached}
-use Rattle.commands.specs.Block.{payload}
+use lib.ListN.{length}
 use borrow.Author.Needs.{needs}
 use Rattle.loader.proofs.write_flash.Statement.{statement}
 use Rattle.loader.proofs.write_flash.Tie as tie

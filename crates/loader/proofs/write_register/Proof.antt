@@ -1,7 +1,6 @@
 use Prim.Native.Nat.{_<_}
 use lib.ListN.{length}
 use Rattle.loader.specs.Effects.{wordsAfter}
-use mathlib.Core.Path.{refl, _≡_}
 use Rattle.loader.proofs.Registers.{placed}
 use borrow.Author.Needs.{needs}
 use Rattle.loader.proofs.write_register.Statement.{statement}

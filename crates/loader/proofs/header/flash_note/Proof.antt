@@ -1,6 +1,5 @@
 use borrow.Author.Tests.{eq-eqb, ne-eqb}
 use Rattle.loader.specs.Effects.{noteAfter}
-use Rattle.rooms.proofs.Laws.{tests}
 use borrow.Author.Needs.{needs}
 use Rattle.loader.proofs.header.flash_note.Statement.{statement}
 use Rattle.loader.proofs.header.flash_note.Tie as tie

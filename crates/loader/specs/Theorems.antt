@@ -1,0 +1,27 @@
+-- Demand 1 over the definitions: what a refused call and a failed command leave as it was. Each statement is proved in proofs/Theorems.
+use mathlib.Core.Path.{_≡_}
+use mathlib.Core.List.{List}
+use Prim.Native.Nat.{ℕ}
+use Rattle.framing.specs.Packets.{read}
+use Rattle.commands.specs.Header.{command}
+use Rattle.loader.specs.Errors.{errorOf}
+use Rattle.loader.specs.Handle.{Core, lent, handle, replied}
+use Rattle.loader.specs.Refusals.{refusal}
+use Rattle.loader.specs.Step.{refused, step, refusing, roomsOf}
+use Rattle.loader.specs.declared.Loader.{Loader}
+use Rattle.loader.specs.declared.Note.the-variants.{Nothing}
+
+-- "A bad call gets its number from document 01 and changes nothing that was lent or handed over."
+abbrev pub RefusedChangesNothing : Type 0
+RefusedChangesNothing =
+    (r : Loader) (b : ℕ) (packet answer flash words : List ℕ) (n : ℕ)
+    → step r b packet answer flash words .told ≡ refused n
+    → (n ≡ refusal r (roomsOf packet answer flash words))
+    × (step r b packet answer flash words ≡ refusing n r packet answer flash words)
+
+-- "A bad command gets its own error byte and changes no flash, no memory word and no session."
+abbrev pub FailedChangesNothing : Type 0
+FailedChangesNothing =
+    (c : Core) (p : List ℕ) → (errorOf (lent c) (c .session) p ≡ 0 → ⊥)
+    → (handle c (read p) .reply ≡ replied (command p) (errorOf (lent c) (c .session) p) 0 Nothing)
+    × (handle c (read p) .core ≡ c)
