@@ -3,7 +3,6 @@ use Prim.Native.Nat.{ℕ, _+_, _≤_, _<_}
 use mathlib.Core.Path.{_≡_, refl, sym, _∙_}
 use mathlib.Core.List.{List}
 use mathlib.Core.Bool.{Bool, true, false, cond}
-use borrow.Author.Tests.{ne-eqb}
 use lib.Dec.{eqb}
 use lib.ListN.{length}
 use Rattle.rooms.proofs.Tests.{absurd-test, both, Passed, first-passed}
@@ -93,25 +92,10 @@ module _ (c : Core) (p : List ℕ) (m : ℕ) (r : Done) (f w : List ℕ) (is : m
   unfolding carriedOut
   does-at n e h = rw (sym is ∙ e) h
 
-  -- a command that is none of those with an effect
-  pub does-none :
-      (m ≡ 0x02 → ⊥) → (m ≡ 0x03 → ⊥) → (m ≡ 0x04 → ⊥) → (m ≡ 0x05 → ⊥) → (m ≡ 0x06 → ⊥) → (m ≡ 0x07 → ⊥)
-      → (m ≡ 0x09 → ⊥) → (m ≡ 0x0A → ⊥) → (m ≡ 0x0D → ⊥) → Does (by-kind c m sync p) m r f w
-      → Does (carriedOut c p) (command p) r f w
-  unfolding carriedOut kind sessionAfter attachAfter flashAfter wordsAfter valueAfter noteAfter
-  does-none h2 h3 h4 h5 h6 h7 h9 hA hD h =
-      rw (← is)
-      (rw (
-        ne-eqb m 0x02 h2,
-        ne-eqb m 0x03 h3,
-        ne-eqb m 0x04 h4,
-        ne-eqb m 0x05 h5,
-        ne-eqb m 0x06 h6,
-        ne-eqb m 0x07 h7,
-        ne-eqb m 0x09 h9,
-        ne-eqb m 0x0A hA,
-        ne-eqb m 0x0D hD,
-      ) (go (eqb m 0x08)))
+  -- SYNC, or a number that is no command's: nothing changes
+  pub does-none : kind m ≡ cond (eqb m 0x08) sync unknown → Does (by-kind c m sync p) m r f w → Does (carriedOut c p) (command p) r f w
+  unfolding carriedOut sessionAfter attachAfter flashAfter wordsAfter valueAfter noteAfter
+  does-none e h = rw (← is, e) (go (eqb m 0x08))
     where
       go : (t : Bool) → Does (by-kind c m (cond t sync unknown) p) m r f w
       go true = h

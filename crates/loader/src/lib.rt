@@ -158,7 +158,8 @@ fn pack_at(words: &mut [u32], at: usize, packet: &[u8], n: usize)
 
 // Block k of a memory session, four bytes to a word.
 fn write_words(begin: Begin, k: u32, packet: &[u8], words: &mut [u32])
-    requires { ⌜ (0x40100000 ≤ begin .offset) × (begin .offset + begin .size ≤ 0x40100000 + 4 * length (now words)) × (length (now words) ≤ 16384) × (begin .block ≤ 4096) × (k < begin .count) ⌝ }
+    requires { ⌜ (0x40100000 ≤ begin .offset) × (begin .offset + begin .size ≤ 0x40100000 + 4 * length (now words))
+        × (length (now words) ≤ 16384) × (begin .block ≤ 4096) × (k < begin .count) ⌝ }
     ensures { λ r. ⌜ now (words .exit) ≡ wordsBlock begin k (payload (now (packet .entry))) (now (words .entry)) ⌝ }
 {
     let old = commands::reach(begin, k);
@@ -222,8 +223,12 @@ fn carry_out(
     flash: &mut [u8],
     words: &mut [u32],
 ) -> Done
-    requires { ⌜ (errorOf (record { flash = length (now flash); words = length (now words) }) session (now packet) ≡ 0) × Ready session (now flash) (now words) ⌝ }
-    ensures { λ r. ⌜ Does (carriedOut (record { session = session; attach = attach; flash = now (flash .entry); words = now (words .entry) }) (now (packet .entry))) (command (now (packet .entry))) r (now (flash .exit)) (now (words .exit)) ⌝ }
+    requires { ⌜ (errorOf (record { flash = length (now flash); words = length (now words) }) session (now packet) ≡ 0)
+        × Ready session (now flash) (now words) ⌝ }
+    ensures { λ r. ⌜ Does
+        (carriedOut (record { session = session; attach = attach; flash = now (flash .entry); words = now (words .entry) })
+        (now (packet .entry)))
+        (command (now (packet .entry))) r (now (flash .exit)) (now (words .exit)) ⌝ }
 {
     let number = commands::command_of(packet);
     match number {
@@ -295,7 +300,10 @@ fn reply(command: u8, error: u8, value: u32, answer: &mut [u8]) -> usize
 // A whole packet that was closed: dropped by its header, or carried out and answered.
 fn act(loader: Loader, packet: &[u8], answer: &mut [u8], flash: &mut [u8], words: &mut [u32]) -> Fed
     requires { ⌜ (22 ≤ length (now answer)) × Ready (loader .session) (now flash) (now words) ⌝ }
-    ensures { λ r. ⌜ Acts (handle (coreOf loader (now (flash .entry)) (now (words .entry))) (header (some (now (packet .entry))))) loader (length (now (packet .entry))) (now (answer .entry)) r (now (answer .exit)) (now (flash .exit)) (now (words .exit)) ⌝ }
+    ensures { λ r. ⌜ Acts
+        (handle (coreOf loader (now (flash .entry)) (now (words .entry))) (header (some (now (packet .entry)))))
+        loader (length (now (packet .entry))) (now (answer .entry)) r
+        (now (answer .exit)) (now (flash .exit)) (now (words .exit)) ⌝ }
 {
     let session = loader.session;
     let stored = packet.len();
@@ -354,7 +362,9 @@ pub fn feed(
     flash: &mut [u8],
     words: &mut [u32],
 ) -> Fed
-    ensures { λ r. ⌜ Feeds (step loader byte (now (packet .entry)) (now (answer .entry)) (now (flash .entry)) (now (words .entry))) r (now (packet .exit)) (now (answer .exit)) (now (flash .exit)) (now (words .exit)) ⌝ }
+    ensures { λ r. ⌜ Feeds
+        (step loader byte (now (packet .entry)) (now (answer .entry)) (now (flash .entry)) (now (words .entry)))
+        r (now (packet .exit)) (now (answer .exit)) (now (flash .exit)) (now (words .exit)) ⌝ }
 {
     let number = refusal_of(loader, packet.len(), answer.len(), flash.len(), words.len());
     if number != 0 {

@@ -1,5 +1,6 @@
 use Rattle.loader.specs.Errors.{kind}
 use Rattle.loader.specs.Effects.{sessionAfter, attachAfter, flashAfter, wordsAfter, valueAfter, noteAfter}
+use Rattle.loader.proofs.Numbers.{kind-rest}
 use Rattle.loader.proofs.Carried.{flash-ready, memory-ready, written-place, read-place, does-at, does-none, leaves}
 use mathlib.Core.Path.{refl}
 use native.Mathlib.Omega.{arith}
@@ -126,7 +127,9 @@ returns-9 c = does-at _ _ _ _ _ _ (c .before .before .before .command-of .ensure
 
 returns-10 : tie.Need-returns-10
 unfolding sessionAfter attachAfter flashAfter wordsAfter valueAfter noteAfter
-returns-10 c = does-none _ _ _ _ _ _ (c .before .before .command-of .ensures) (c .before .match .rest .0 .0 .0 .0 .0 .0 .0 .0 .1) (c .before .match .rest .0 .0 .0 .0 .0 .0 .0 .1) (c .before .match .rest .0 .0 .0 .0 .0 .0 .1) (c .before .match .rest .0 .0 .0 .0 .0 .1) (c .before .match .rest .0 .0 .0 .0 .1) (c .before .match .rest .0 .0 .0 .1) (c .before .match .rest .0 .0 .1) (c .before .match .rest .0 .1) (c .before .match .rest .1) (leaves _ _ _ _ _ _ _ (c .leaving7 .ensures) refl refl refl refl refl)
+returns-10 c =
+    does-none _ _ _ _ _ _ (c .before .before .command-of .ensures) (kind-rest _ (c .before .match .rest .0 .0 .0 .0 .0 .0 .0 .0 .1) (c .before .match .rest .0 .0 .0 .0 .0 .0 .0 .1) (c .before .match .rest .0 .0 .0 .0 .0 .0 .1) (c .before .match .rest .0 .0 .0 .0 .0 .1) (c .before .match .rest .0 .0 .0 .0 .1) (c .before .match .rest .0 .0 .0 .1) (c .before .match .rest .0 .0 .1) (c .before .match .rest .0 .1) (c .before .match .rest .1))
+    (leaves _ _ _ _ _ _ _ (c .leaving7 .ensures) refl refl refl refl refl)
 
 pub carry-out-spec : {M : Type 1} → statement M
 carry-out-spec =

@@ -1,5 +1,8 @@
-use Rattle.loader.specs.Errors.{checks, kind}
-use Rattle.loader.proofs.Numbers.{error-at, error-none}
+use mathlib.Core.Path.{ap, _∙_}
+use mathlib.Core.Bool.{cond}
+use borrow.Author.Tests.{ne-eqb}
+use Rattle.loader.specs.Errors.{checks, kind, sync, unknown}
+use Rattle.loader.proofs.Numbers.{error-at, kind-rest, error-none}
 use borrow.Author.Needs.{needs}
 use Rattle.loader.proofs.errors.error_of.Statement.{statement}
 use Rattle.loader.proofs.errors.error_of.Tie as tie
@@ -150,7 +153,9 @@ unfolding checks kind
 returns-10 c = error-at _ _ _ 0x0D _ _ (c .before .before .before .before .before .command-of .ensures) (c .before .before .before .before .match .keys10) (cc)
 
 returns-11 : tie.Need-returns-11
-returns-11 c = error-none _ _ _ _ (c .before .command-of .ensures) (c .match .rest .0 .0 .0 .0 .0 .0 .0 .0 .0 .1) (c .match .rest .0 .0 .0 .0 .0 .0 .0 .0 .1) (c .match .rest .0 .0 .0 .0 .0 .0 .0 .1) (c .match .rest .0 .0 .0 .0 .0 .0 .1) (c .match .rest .0 .0 .0 .0 .0 .1) (c .match .rest .0 .0 .0 .0 .1) (c .match .rest .0 .0 .0 .1) (c .match .rest .0 .0 .1) (c .match .rest .0 .1) (c .match .rest .1)
+returns-11 c =
+    error-none _ _ _ _ (c .before .command-of .ensures)
+    (kind-rest _ (c .match .rest .0 .0 .0 .0 .0 .0 .0 .0 .0 .1) (c .match .rest .0 .0 .0 .0 .0 .0 .0 .0 .1) (c .match .rest .0 .0 .0 .0 .0 .0 .0 .1) (c .match .rest .0 .0 .0 .0 .0 .0 .1) (c .match .rest .0 .0 .0 .0 .0 .1) (c .match .rest .0 .0 .0 .0 .1) (c .match .rest .0 .0 .1) (c .match .rest .0 .1) (c .match .rest .1) ∙ ap (λ t. cond t sync unknown) (ne-eqb _ _ (c .match .rest .0 .0 .0 .1)))
 
 pub error-of-spec : {M : Type 1} → statement M
 error-of-spec =
