@@ -1,6 +1,4 @@
 // What a read packet says: the shape of its body, the numbers of a BEGIN and their rules, a block's data. No record, no session.
-use rooms::both;
-use rooms::either;
 ghost use mathlib.Core.Path.{_≡_};
 ghost use Prim.Native.Nat.{_-_};
 ghost use lib.Dec.{leb};
@@ -54,7 +52,7 @@ fn size_told(packet: &[u8]) -> bool
 pub fn shape_good(packet: &[u8], n: usize) -> bool
     ensures { λ r. ⌜ r ≡ shaped n (now (packet .entry)) ⌝ }
 {
-    both(size_told(packet), past(packet.len(), 8) == n)
+    size_told(packet) & (past(packet.len(), 8) == n)
 }
 
 // Whether a packet passes the 0xC0 check of a data command.
@@ -63,10 +61,7 @@ pub fn data_shape_good(packet: &[u8]) -> bool
 {
     let length = past(packet.len(), 8);
     let size = fields::word_at(packet, 8) as usize;
-    both(
-        size_told(packet),
-        both(16 <= length, size == past(length, 16)),
-    )
+    size_told(packet) & ((16 <= length) & (size == past(length, 16)))
 }
 
 // ---- the numbers of a BEGIN
@@ -95,7 +90,7 @@ fn count_good(begin: Begin) -> bool
 {
     let all = begin.count as u64 * begin.block as u64;
     let size = begin.size as u64;
-    both(size <= all, all < size + begin.block as u64)
+    (size <= all) & (all < size + begin.block as u64)
 }
 
 pub fn flash_good(lent: Lent, begin: Begin) -> bool
@@ -104,16 +99,8 @@ pub fn flash_good(lent: Lent, begin: Begin) -> bool
     let block = begin.block;
     let offset = begin.offset;
     let last = offset as u64 + round_up(begin.size);
-    both(
-        1 <= block,
-        both(
-            block <= 4096,
-            both(
-                count_good(begin),
-                both(offset % 4096 == 0, last <= lent.flash as u64),
-            ),
-        ),
-    )
+    let placed = (offset % 4096 == 0) & (last <= lent.flash as u64);
+    (1 <= block) & ((block <= 4096) & (count_good(begin) & placed))
 }
 
 // The address of the first word.
@@ -140,15 +127,9 @@ pub fn memory_good(lent: Lent, begin: Begin) -> bool
     let block = begin.block;
     let address = begin.offset;
     let last = address as u64 + size as u64;
-    let placed = both(MEMORY_START <= address, up_to_end(lent, last));
-    let aligned = both(
-        size % 4 == 0,
-        both(block % 4 == 0, both(address % 4 == 0, placed)),
-    );
-    both(
-        4 <= block,
-        both(block <= 4096, both(count_good(begin), aligned)),
-    )
+    let placed = (MEMORY_START <= address) & up_to_end(lent, last);
+    let aligned = (size % 4 == 0) & ((block % 4 == 0) & ((address % 4 == 0) & placed));
+    (4 <= block) & ((block <= 4096) & (count_good(begin) & aligned))
 }
 
 // How many bytes k blocks reach, of the announced size.
@@ -168,10 +149,7 @@ pub fn reach(begin: Begin, k: u32) -> u32
 pub fn zero_words_good(packet: &[u8]) -> bool
     ensures { λ r. ⌜ r ≡ zeroWords (now (packet .entry)) ⌝ }
 {
-    both(
-        fields::word_at(packet, 16) == 0,
-        fields::word_at(packet, 20) == 0,
-    )
+    (fields::word_at(packet, 16) == 0) & (fields::word_at(packet, 20) == 0)
 }
 
 // Whether the whole checksum field is the checksum of the data.
@@ -203,17 +181,14 @@ pub fn flash_end_good(packet: &[u8]) -> bool
 fn in_words(lent: Lent, address: u32) -> bool
     ensures { λ r. ⌜ r ≡ inWords lent address ⌝ }
 {
-    both(MEMORY_START <= address, up_to_end(lent, address as u64 + 1))
+    (MEMORY_START <= address) & up_to_end(lent, address as u64 + 1)
 }
 
 pub fn memory_end_good(lent: Lent, packet: &[u8]) -> bool
     ensures { λ r. ⌜ r ≡ memoryEndRule lent (now (packet .entry)) ⌝ }
 {
     let flag = fields::word_at(packet, 8);
-    either(
-        flag == 1,
-        both(flag == 0, in_words(lent, fields::word_at(packet, 12))),
-    )
+    (flag == 1) | ((flag == 0) & in_words(lent, fields::word_at(packet, 12)))
 }
 
 pub fn sync_good(packet: &[u8]) -> bool
@@ -223,26 +198,20 @@ pub fn sync_good(packet: &[u8]) -> bool
     if packet.len() < 12 {
         return false;
     }
-    both(
-        rooms::same(&packet[8..12], lead),
-        rooms::all_from(packet, 12, 0x55),
-    )
+    rooms::same(&packet[8..12], lead) & rooms::all_from(packet, 12, 0x55)
 }
 
 // Whether an address is a multiple of 4 inside the words.
 pub fn register_good(lent: Lent, address: u32) -> bool
     ensures { λ r. ⌜ r ≡ registerRule lent address ⌝ }
 {
-    both(in_words(lent, address), address % 4 == 0)
+    in_words(lent, address) & (address % 4 == 0)
 }
 
 pub fn write_good(lent: Lent, packet: &[u8]) -> bool
     ensures { λ r. ⌜ r ≡ writeRule lent (now (packet .entry)) ⌝ }
 {
-    both(
-        register_good(lent, fields::word_at(packet, 8)),
-        fields::word_at(packet, 20) == 0,
-    )
+    register_good(lent, fields::word_at(packet, 8)) & (fields::word_at(packet, 20) == 0)
 }
 
 // The place among the words of an address.

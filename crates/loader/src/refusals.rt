@@ -2,7 +2,6 @@
 use crate::Loader;
 use crate::sessions::session_good;
 use commands::Lent;
-use rooms::both;
 use rooms::check;
 ghost use mathlib.Core.Path.{_≡_};
 ghost use Rattle.loader.specs.Refusals.{flashLength, wordCount, recordGood, refusal};
@@ -10,13 +9,13 @@ ghost use Rattle.loader.specs.Refusals.{flashLength, wordCount, recordGo
 fn flash_length_good(n: usize) -> bool
     ensures { λ r. ⌜ r ≡ flashLength n ⌝ }
 {
-    both(1 <= n, both(n % 4096 == 0, n <= 4194304))
+    (1 <= n) & ((n % 4096 == 0) & (n <= 4194304))
 }
 
 fn word_count_good(n: usize) -> bool
     ensures { λ r. ⌜ r ≡ wordCount n ⌝ }
 {
-    both(1 <= n, n <= 16384)
+    (1 <= n) & (n <= 16384)
 }
 
 fn record_good(lent: Lent, loader: Loader) -> bool
@@ -24,13 +23,7 @@ fn record_good(lent: Lent, loader: Loader) -> bool
 {
     let line = loader.line;
     let session = loader.session;
-    both(
-        line.held <= 4120,
-        both(
-            session_good(lent, session),
-            fields::attach_good(loader.attach),
-        ),
-    )
+    (line.held <= 4120) & (session_good(lent, session) & fields::attach_good(loader.attach))
 }
 
 // The number that a call is refused with, by its record and the lengths of its rooms; 0 where it is not.

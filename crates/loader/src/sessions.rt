@@ -56,13 +56,7 @@ pub fn session_good(lent: Lent, session: Session) -> bool
 {
     match session {
         Session::Closed => true,
-        Session::Flash(begin, k) => rooms::both(
-            commands::flash_good(lent, begin),
-            k <= begin.count,
-        ),
-        Session::Memory(begin, k) => rooms::both(
-            commands::memory_good(lent, begin),
-            k <= begin.count,
-        ),
+        Session::Flash(begin, k) => commands::flash_good(lent, begin) & (k <= begin.count),
+        Session::Memory(begin, k) => commands::memory_good(lent, begin) & (k <= begin.count),
     }
 }

@@ -1,6 +1,6 @@
+use Rattle.commands.specs.Begin.{counted}
 use native.Mathlib.Omega.{arith}
 use Rattle.commands.proofs.Products.{product-fits}
-use Rattle.commands.specs.Begin.{counted}
 use borrow.Author.Needs.{needs}
 use Rattle.commands.proofs.count_good.Statement.{statement}
 use Rattle.commands.proofs.count_good.Tie as tie
@@ -17,14 +17,11 @@ mul-all c = product-fits (omega arith) (omega arith)
 cast-size : tie.Need-cast-size
 cast-size c = search needs
 
-cast-both : tie.Need-cast-both
-cast-both c = search needs
+cast-result : tie.Need-cast-result
+cast-result c = search needs
 
-add-both : tie.Need-add-both
-add-both c = search needs
-
-both-requires : tie.Need-both-requires
-both-requires c κs = search needs
+add-result : tie.Need-add-result
+add-result c = search needs
 
 returns : tie.Need-returns
 unfolding counted
@@ -32,5 +29,4 @@ returns c = cc
 
 pub count-good-spec : {M : Type 1} → statement M
 count-good-spec =
-    tie.close
-    (tie.spec cast-all cast-all-2 mul-all cast-size cast-both add-both both-requires returns)
+    tie.close (tie.spec cast-all cast-all-2 mul-all cast-size cast-result add-result returns)

@@ -18,12 +18,6 @@ size-told-requires c κs = search needs
 past-requires-2 : tie.Need-past-requires-2
 past-requires-2 c κs = search needs
 
-both-requires : tie.Need-both-requires
-both-requires c κs = search needs
-
-both-requires-2 : tie.Need-both-requires-2
-both-requires-2 c κs = search needs
-
 returns : tie.Need-returns
 unfolding dataShaped
 returns c = cc
@@ -31,12 +25,4 @@ returns c = cc
 pub data-shape-good-spec : {M : Type 1} → statement M
 data-shape-good-spec =
     tie.close
-    (tie.spec
-    past-requires
-    word-at-requires
-    cast-size
-    size-told-requires
-    past-requires-2
-    both-requires
-    both-requires-2
-    returns)
+    (tie.spec past-requires word-at-requires cast-size size-told-requires past-requires-2 returns)

@@ -17,32 +17,10 @@ add-last c = omega arith
 count-good-requires : tie.Need-count-good-requires
 count-good-requires c κs = search needs
 
-both-requires : tie.Need-both-requires
-both-requires c κs = search needs
-
-both-requires-2 : tie.Need-both-requires-2
-both-requires-2 c κs = search needs
-
-both-requires-3 : tie.Need-both-requires-3
-both-requires-3 c κs = search needs
-
-both-requires-4 : tie.Need-both-requires-4
-both-requires-4 c κs = search needs
-
 returns : tie.Need-returns
 unfolding flashRule
 returns c = cc
 
 pub flash-good-spec : {M : Type 1} → statement M
 flash-good-spec =
-    tie.close
-    (tie.spec
-    cast-last
-    round-up-requires
-    add-last
-    count-good-requires
-    both-requires
-    both-requires-2
-    both-requires-3
-    both-requires-4
-    returns)
+    tie.close (tie.spec cast-last round-up-requires add-last count-good-requires returns)

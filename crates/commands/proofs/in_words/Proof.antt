@@ -10,12 +10,9 @@ add-up-to-end c = search needs
 up-to-end-requires : tie.Need-up-to-end-requires
 up-to-end-requires c κs = search needs
 
-both-requires : tie.Need-both-requires
-both-requires c κs = search needs
-
 returns : tie.Need-returns
 unfolding inWords
-returns c = cc (add-one (c .before .before .args .address))
+returns c = cc (add-one (c .before .args .address))
 
 pub in-words-spec : {M : Type 1} → statement M
-in-words-spec = tie.close (tie.spec add-up-to-end up-to-end-requires both-requires returns)
+in-words-spec = tie.close (tie.spec add-up-to-end up-to-end-requires returns)

@@ -12,23 +12,10 @@ word-at-requires-2 c κs = search needs
 in-words-requires : tie.Need-in-words-requires
 in-words-requires c κs = search needs
 
-both-requires : tie.Need-both-requires
-both-requires c κs = search needs
-
-either-requires : tie.Need-either-requires
-either-requires c κs = search needs
-
 returns : tie.Need-returns
 unfolding memoryEndRule
 returns c = cc
 
 pub memory-end-good-spec : {M : Type 1} → statement M
 memory-end-good-spec =
-    tie.close
-    (tie.spec
-    word-at-requires
-    word-at-requires-2
-    in-words-requires
-    both-requires
-    either-requires
-    returns)
+    tie.close (tie.spec word-at-requires word-at-requires-2 in-words-requires returns)

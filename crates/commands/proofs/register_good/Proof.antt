@@ -6,12 +6,9 @@ use Rattle.commands.proofs.register_good.Tie as tie
 in-words-requires : tie.Need-in-words-requires
 in-words-requires c κs = search needs
 
-both-requires : tie.Need-both-requires
-both-requires c κs = search needs
-
 returns : tie.Need-returns
 unfolding registerRule
 returns c = cc
 
 pub register-good-spec : {M : Type 1} → statement M
-register-good-spec = tie.close (tie.spec in-words-requires both-requires returns)
+register-good-spec = tie.close (tie.spec in-words-requires returns)

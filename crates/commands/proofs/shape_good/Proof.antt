@@ -9,12 +9,9 @@ size-told-requires c κs = search needs
 past-requires : tie.Need-past-requires
 past-requires c κs = search needs
 
-both-requires : tie.Need-both-requires
-both-requires c κs = search needs
-
 returns : tie.Need-returns
 unfolding shaped
 returns c = cc
 
 pub shape-good-spec : {M : Type 1} → statement M
-shape-good-spec = tie.close (tie.spec size-told-requires past-requires both-requires returns)
+shape-good-spec = tie.close (tie.spec size-told-requires past-requires returns)

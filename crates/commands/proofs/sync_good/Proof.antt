@@ -1,6 +1,6 @@
+use Rattle.commands.specs.Parameters.{syncRule}
 use Rattle.commands.proofs.Sync.{too-short}
 use native.Mathlib.Omega.{arith}
-use Rattle.commands.specs.Parameters.{syncRule}
 use borrow.Author.Needs.{needs}
 use Rattle.commands.proofs.sync_good.Statement.{statement}
 use Rattle.commands.proofs.sync_good.Tie as tie
@@ -23,9 +23,6 @@ same-requires c κs = search needs
 all-from-requires : tie.Need-all-from-requires
 all-from-requires c κs = search needs
 
-both-requires : tie.Need-both-requires
-both-requires c κs = search needs
-
 returns-2 : tie.Need-returns-2
 unfolding syncRule
 returns-2 c = cc
@@ -40,5 +37,4 @@ sync-good-spec =
     part-same-end
     same-requires
     all-from-requires
-    both-requires
     returns-2)

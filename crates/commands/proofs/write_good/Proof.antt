@@ -12,14 +12,10 @@ register-good-requires c κs = search needs
 word-at-requires-2 : tie.Need-word-at-requires-2
 word-at-requires-2 c κs = search needs
 
-both-requires : tie.Need-both-requires
-both-requires c κs = search needs
-
 returns : tie.Need-returns
 unfolding writeRule
 returns c = cc
 
 pub write-good-spec : {M : Type 1} → statement M
 write-good-spec =
-    tie.close
-    (tie.spec word-at-requires register-good-requires word-at-requires-2 both-requires returns)
+    tie.close (tie.spec word-at-requires register-good-requires word-at-requires-2 returns)

@@ -9,13 +9,9 @@ word-at-requires c κs = search needs
 word-at-requires-2 : tie.Need-word-at-requires-2
 word-at-requires-2 c κs = search needs
 
-both-requires : tie.Need-both-requires
-both-requires c κs = search needs
-
 returns : tie.Need-returns
 unfolding zeroWords
 returns c = cc
 
 pub zero-words-good-spec : {M : Type 1} → statement M
-zero-words-good-spec =
-    tie.close (tie.spec word-at-requires word-at-requires-2 both-requires returns)
+zero-words-good-spec = tie.close (tie.spec word-at-requires word-at-requires-2 returns)

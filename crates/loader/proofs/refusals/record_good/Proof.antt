@@ -9,17 +9,9 @@ session-good-requires c κs = search needs
 attach-good-requires : tie.Need-attach-good-requires
 attach-good-requires c κs = search needs
 
-both-requires : tie.Need-both-requires
-both-requires c κs = search needs
-
-both-requires-2 : tie.Need-both-requires-2
-both-requires-2 c κs = search needs
-
 returns : tie.Need-returns
 unfolding recordGood
 returns c = cc
 
 pub record-good-spec : {M : Type 1} → statement M
-record-good-spec =
-    tie.close
-    (tie.spec session-good-requires attach-good-requires both-requires both-requires-2 returns)
+record-good-spec = tie.close (tie.spec session-good-requires attach-good-requires returns)

@@ -1,14 +1,10 @@
 use Rattle.loader.specs.Refusals.{wordCount}
-use borrow.Author.Needs.{needs}
 use Rattle.loader.proofs.refusals.word_count_good.Statement.{statement}
 use Rattle.loader.proofs.refusals.word_count_good.Tie as tie
-
-both-requires : tie.Need-both-requires
-both-requires c κs = search needs
 
 returns : tie.Need-returns
 unfolding wordCount
 returns c = cc
 
 pub word-count-good-spec : {M : Type 1} → statement M
-word-count-good-spec = tie.close (tie.spec both-requires returns)
+word-count-good-spec = tie.close (tie.spec returns)

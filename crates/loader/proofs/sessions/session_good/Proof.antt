@@ -12,17 +12,11 @@ enum-known-session c = search needs
 flash-good-requires : tie.Need-flash-good-requires
 flash-good-requires c κs = search needs
 
-both-requires : tie.Need-both-requires
-both-requires c κs = search needs
-
 enum-known-session-2 : tie.Need-enum-known-session-2
 enum-known-session-2 c = search needs
 
 memory-good-requires : tie.Need-memory-good-requires
 memory-good-requires c κs = search needs
-
-both-requires-2 : tie.Need-both-requires-2
-both-requires-2 c κs = search needs
 
 returns : tie.Need-returns
 unfolding sessionGood
@@ -30,11 +24,11 @@ returns c = rw (c .enum-told .given .1)
 
 returns-2 : tie.Need-returns-2
 unfolding sessionGood
-returns-2 c = rw (c .before .before .before .before .session .given .1) (cc)
+returns-2 c = rw (c .before .before .before .session .given .1) (cc)
 
 returns-3 : tie.Need-returns-3
 unfolding sessionGood
-returns-3 c = rw (c .before .before .before .before .session2 .given .1) (cc)
+returns-3 c = rw (c .before .before .before .session2 .given .1) (cc)
 
 pub session-good-spec : {M : Type 1} → statement M
 session-good-spec =
@@ -43,10 +37,8 @@ session-good-spec =
     enum-told
     enum-known-session
     flash-good-requires
-    both-requires
     enum-known-session-2
     memory-good-requires
-    both-requires-2
     returns
     returns-2
     returns-3)
