@@ -1,0 +1,55 @@
+-- The starred cases: equations of numbers and lists compute, and the others follow from the laws of a packet, a load and a link call.
+use mathlib.Core.Path.{refl, ap, _∙_}
+use mathlib.Core.Bool.{and-false}
+use native.Mathlib.Omega.{arith}
+use Rattle.rooms.specs.Bytes.{sameBytes, allAre}
+use Rattle.rooms.specs.Checks.{first}
+use Rattle.fields.specs.Words as words
+use Rattle.fields.specs.Checksum.{xored, checksum}
+use Rattle.fields.specs.Merge.{mergedBits, merged}
+use Rattle.fields.specs.Pins.{pinGood, pinField, pinsGood, pinsWord, packingOf}
+use Rattle.framing.specs.Frame.{escaped, framed}
+use Rattle.framing.specs.Packets.{header}
+use Rattle.commands.specs.Header.{command, sized, shaped}
+use Rattle.commands.specs.Begin.{beginOf, roundUp, counted, flashRule}
+use Rattle.commands.specs.Parameters.{syncRule}
+use Rattle.loader.specs.Errors.{kind, plainChecks, checks, errorOf}
+use Rattle.loader.specs.Effects.{valueAfter, noteAfter}
+use Rattle.loader.specs.Handle.{carriedOut, failed, handle}
+use Rattle.loader.specs.declared.Note.the-variants.{Nothing}
+use Rattle.link.specs.Clock.{silence, stillDead}
+use Rattle.link.specs.Frames as frames
+use Rattle.link.specs.Link.{withDead}
+use Rattle.cases.specs.Packets.{syncPacket, beginPacket}
+use Rattle.cases.specs.Cases.{Starred}
+use Rattle.cases.proofs.Answers.{answered-with}
+use Rattle.cases.proofs.Blocks.{five-loaded}
+use Rattle.cases.proofs.Linked.{polled, frame-sent, baud-read}
+
+pub starred : Starred
+unfolding
+    checksum xored frames.framed framed escaped merged mergedBits packingOf pinsGood pinsWord pinGood pinField
+    handle carriedOut failed errorOf checks plainChecks first kind command shaped sized words.word words.half header
+    syncRule sameBytes allAre valueAfter noteAfter beginOf flashRule counted roundUp silence stillDead
+starred = record {
+  case-1 = refl;
+  case-2 = refl;
+  case-3 = refl;
+  case-4 = λ r. answered-with r (syncPacket 36 32) (omega arith) (omega arith) 8 0 0 Nothing refl;
+  case-5 = λ r. answered-with r (syncPacket 35 31) (omega arith) (omega arith) 8 0xC0 0 Nothing refl;
+  case-6-rule = λ n. refl;
+  case-6-begin = λ r h. answered-with r (beginPacket 5000 5 1024 8192) (omega arith) (omega arith) 2 0 0 Nothing (rw h);
+  case-6-erased = λ r h d₀ d₁ d₂ d₃ d₄ b₀ b₁ b₂ b₃ b₄ p. five-loaded r h d₀ d₁ d₂ d₃ d₄ b₀ b₁ b₂ b₃ b₄ p .erased;
+  case-7-4 = λ r. answered-with r (beginPacket 5000 4 1024 8192) (omega arith) (omega arith) 2 0xC5 0 Nothing refl;
+  case-7-6 = λ r. answered-with r (beginPacket 5000 6 1024 8192) (omega arith) (omega arith) 2 0xC5 0 Nothing refl;
+  case-8 = refl;
+  case-9 = refl;
+  case-11-frame = refl;
+  case-11-read = baud-read;
+  case-12-frame = refl;
+  case-12-sent = λ l tick room h. frame-sent l _ tick room h;
+  case-14-249 = refl;
+  case-14-alive = λ l room p. polled l room _ _ p ∙ ap (withDead l) (and-false (l .dead));
+  case-14-250 = refl;
+  case-14-start = λ l room p. polled l room _ _ p;
+}

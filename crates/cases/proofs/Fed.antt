@@ -1,0 +1,223 @@
+-- A framed packet fed to a loader between packets: the calls before its last byte change nothing but the packet room, and the last one handles it.
+use mathlib.Core.Path.{_≡_, refl, ap, _∙_}
+use mathlib.Core.List.{List, [], _∷_, _++_, append-nil}
+use mathlib.Core.Option.{Option, none, some}
+use Prim.Native.Nat.{ℕ, _≤_}
+use native.Mathlib.Nat.{zero-add}
+use native.Mathlib.Omega.{arith}
+use borrow.Author.Tests.{leb-true, le-leb, ne-eqb}
+use lib.ListN.{length, take}
+use lib.Seq.{take-at}
+use Rattle.rooms.specs.Lay.{lay}
+use Rattle.rooms.specs.Checks.{first}
+use Rattle.rooms.proofs.Laws.{length-lay}
+use Rattle.rooms.proofs.Tests.{first-passed, first-append}
+use Rattle.fields.specs.Pins.{attachGood}
+use Rattle.framing.specs.Frame.{END, longest, escaped, framed}
+use Rattle.framing.specs.Packets.{header}
+use Rattle.framing.specs.Line.{Step as ByteStep, line, silent, closed, stepOf}
+use Rattle.framing.specs.Run.{fresh, told, closings, stateAfter, roomAfter}
+use Rattle.framing.specs.declared.Line.{Line}
+use Rattle.framing.specs.declared.Phase.the-variants.{Inside}
+use Rattle.framing.specs.declared.Closing.the-variants.{Whole}
+use Rattle.framing.proofs.Unescape.{means-escaped}
+use Rattle.framing.proofs.Cut.{clean-escaped}
+use Rattle.framing.proofs.Invariant as invariant
+use Rattle.framing.proofs.Invariant.{Pend, inside, Fed, still, whole, broken, pend-fresh, pend-opened, pend-held}
+use Rattle.framing.proofs.Runs.{escaped-leads}
+use Rattle.loader.specs.Refusals.{Rooms, roomChecks, recordGood, refusal}
+use Rattle.loader.specs.Session.{sessionGood}
+use Rattle.loader.specs.Handle.{Core, Handled, handle}
+use Rattle.loader.specs.Step.{Step, Told, taken, freshLoader, coreOf, step, closing, afterByte, roomsOf, answerRoom, toldOf}
+use Rattle.loader.specs.declared.Loader.{Loader}
+use Rattle.claims.specs.Calls.{Called, stepped, EachCall}
+use Rattle.claims.proofs.Lengths.{Sound, keeps}
+use Rattle.claims.proofs.Line.{follows}
+use Rattle.cases.specs.Feeding.{Lending, begun, fed, framedAll}
+
+fed-append : (s : Step) (xs ys : List ℕ) → fed s (xs ++ ys) ≡ fed (fed s xs) ys
+unfolding fed
+fed-append s [] ys = refl
+fed-append s (b ∷ xs) ys = fed-append (step (s .loader) b (s .packet) (s .answer) (s .flash) (s .words)) xs ys
+
+-- packets framed and fed, one after the other
+abbrev pub fedAll : Step → List (List ℕ) → Step
+fedAll s [] = s
+fedAll s (p ∷ ps) = fedAll (fed s (framed p)) ps
+
+pub fed-all : (s : Step) (ps : List (List ℕ)) → fed s (framedAll ps) ≡ fedAll s ps
+unfolding fed framedAll
+fed-all s [] = refl
+fed-all s (p ∷ ps) = fed-append s (framed p) (framedAll ps) ∙ fed-all (fed s (framed p)) ps
+
+abbrev loaderOf : Line → Core → Loader
+loaderOf l c = record { line = l; session = c .session; attach = c .attach }
+
+-- a loader in a line state, with its core, packet room and answer room
+abbrev pub state : Told → Line → Core → List ℕ → List ℕ → Step
+state t l c packet answer =
+    record { told = t; loader = loaderOf l c; packet = packet; answer = answer; flash = c .flash; words = c .words }
+
+-- no refusal applies, and the packet room holds what the line state says
+pub record Allowed (l : Line) (c : Core) (packet answer : List ℕ) (o : Option (List ℕ)) : Type 0 where
+  pub rooms : first (roomChecks (roomsOf packet answer (c .flash) (c .words))) ≡ 0
+  pub pending : Pend packet l o
+  pub sound : Sound c
+
+module _ (l : Line) (c : Core) (packet answer : List ℕ) {o : Option (List ℕ)} (a : Allowed l c packet answer o) where
+  abbrev lending : Rooms
+  lending = roomsOf packet answer (c .flash) (c .words)
+
+  unrefused : refusal (loaderOf l c) lending ≡ 0
+  unfolding refusal roomChecks recordGood first
+  unrefused =
+      rw (first-append (roomChecks lending), a .rooms, le-leb (l .held) longest (pend-held (a .pending)), a .sound .session, a .sound .attach)
+
+  one-step : (b : ℕ) (s : ByteStep) → stepOf l b packet ≡ s
+      → step (loaderOf l c) b packet answer (c .flash) (c .words)
+      ≡ afterByte (s .answer .closing) (s .answer .line) (loaderOf l c) (s .room) answer (c .flash) (c .words)
+  unfolding step
+  one-step b s e = rw (unrefused, e)
+
+  pub for-packet : longest ≤ length packet
+  unfolding roomChecks
+  for-packet = leb-true _ _ (first-passed (roomChecks lending) refl (a .rooms) .0)
+
+-- bytes that close no packet change the line state and the packet room, and nothing else
+abbrev Quiet : List ℕ → Type 0
+Quiet bs =
+    (l : Line) (c : Core) (packet answer : List ℕ) (o : Option (List ℕ)) → Allowed l c packet answer o → closings l packet bs ≡ []
+    → fed (state taken l c packet answer) bs ≡ state taken (stateAfter l packet bs) c (roomAfter l packet bs) answer
+
+quiet-step : (bs : List ℕ) → Quiet bs → (b : ℕ) (l : Line) (c : Core) (packet answer : List ℕ) {o : Option (List ℕ)}
+    → Allowed l c packet answer o → (s : ByteStep) → stepOf l b packet ≡ s → Fed packet o b s
+    → told (s .answer .closing) (s .room) ++ closings (s .answer .line) (s .room) bs ≡ []
+    → fed (step (loaderOf l c) b packet answer (c .flash) (c .words)) bs
+    ≡ state taken (stateAfter (s .answer .line) (s .room) bs) c (roomAfter (s .answer .line) (s .room) bs) answer
+unfolding told afterByte
+quiet-step bs rest b l c packet answer a s q (still l′ after o′ f k p w) e =
+    let n : Allowed l′ c after answer o′ = record { rooms = rw k (a .rooms); pending = p; sound = a .sound } in
+    rw (one-step l c packet answer a b s q, f) (rest l′ c after answer o′ n (rw f at e))
+quiet-step bs rest b l c packet answer a s q (whole n f x y w) e =
+    let g = rw f at e in let z : _≡_ {A = ℕ} 0 1 = cc in absurd (omega arith)
+quiet-step bs rest b l c packet answer a s q (broken n f x y w) e =
+    let g = rw f at e in let z : _≡_ {A = ℕ} 0 1 = cc in absurd (omega arith)
+
+quiet-fed : (bs : List ℕ) → Quiet bs
+unfolding fed closings stateAfter roomAfter
+quiet-fed [] l c packet answer o a e = refl
+quiet-fed (b ∷ bs) l c packet answer o a e =
+    quiet-step bs (quiet-fed bs) b l c packet answer a _ refl (invariant.fed l b packet (for-packet l c packet answer a) (a .pending)) e
+
+-- a framed packet, from a line state where C0 opens one
+module _ (t : Told) (l : Line) (c : Core) (packet answer : List ℕ) {o : Option (List ℕ)} (a : Allowed l c packet answer o)
+    (opens : stepOf l END packet ≡ silent (line Inside 0) packet) (p : List ℕ) (filled : 1 ≤ length p) (fits : length p ≤ longest) where
+  allowed-open : Allowed (line Inside 0) c packet answer (some [])
+  allowed-open = record { rooms = a .rooms; pending = pend-opened packet; sound = a .sound }
+
+  opened : (bs : List ℕ) → fed (state t l c packet answer) (END ∷ bs) ≡ fed (state taken (line Inside 0) c packet answer) bs
+  unfolding fed afterByte
+  opened bs = rw (one-step l c packet answer a END _ opens)
+
+  -- the room with the packet in it
+  abbrev full : List ℕ
+  full = lay packet 0 p
+
+  full-length : length full ≡ length packet
+  full-length = length-lay packet 0 p (omega (arith, for-packet l c packet answer a))
+
+  laid : take (length p) full ≡ p
+  unfolding lay
+  laid = take-at p _ (length p) refl
+
+  stored : fed (state taken (line Inside 0) c packet answer) (escaped p) ≡ state taken (line Inside (length p)) c full answer
+  unfolding closings stateAfter roomAfter
+  stored =
+      let led = rw (append-nil, zero-add) at (escaped-leads p 0 packet [] (omega arith) (for-packet l c packet answer a)) in
+      quiet-fed (escaped p) (line Inside 0) c packet answer (some []) allowed-open (led .closes) ∙ rw (led .state, led .after)
+
+  closes : stepOf (line Inside (length p)) END full ≡ closed (Whole (length p)) full
+  unfolding stepOf
+  closes = rw (ne-eqb (length p) 0 (λ e. omega arith))
+
+  allowed-full : Allowed (line Inside (length p)) c full answer (some (escaped p))
+  allowed-full =
+      record { rooms = rw full-length (a .rooms); pending = inside {t = escaped p} fits (rw laid (means-escaped p)) (clean-escaped p); sound = a .sound }
+
+  -- the packet handled, and what its last byte comes to
+  abbrev handled : Handled
+  handled = handle c (header (some p))
+
+  abbrev after : Step
+  after = state (toldOf (length p) (handled .reply)) (line Inside 0) (handled .core) full (answerRoom (handled .reply) answer)
+
+  last-step : step (loaderOf (line Inside (length p)) c) END full answer (c .flash) (c .words) ≡ after
+  unfolding afterByte closing
+  last-step = rw (one-step (line Inside (length p)) c full answer allowed-full END _ closes, laid)
+
+  pub packet-fed : fed (state t l c packet answer) (framed p) ≡ after
+  unfolding framed fed
+  packet-fed = opened (escaped p ++ END ∷ []) ∙ fed-append _ (escaped p) (END ∷ []) ∙ rw stored last-step
+
+  -- in the last call every room keeps its length
+  last-call : Called (record { loader = loaderOf (line Inside (length p)) c; room = full; flash = c .flash; words = c .words }) (record { byte = END; answer = answer })
+  unfolding EachCall
+  last-call = follows (record { byte = END; answer = answer } ∷ []) _ (some (escaped p)) (record { pending = allowed-full .pending; sound = a .sound }) .each .0
+
+  pub allowed-after : Allowed (line Inside 0) (handled .core) full (answerRoom (handled .reply) answer) (some [])
+  unfolding stepped
+  allowed-after =
+      let k = keeps c (header (some p)) (a .sound) in
+      let n : length (answerRoom (handled .reply) answer) ≡ length answer = rw last-step at (last-call .answer-length) in
+      let f : length (handled .core .flash) ≡ length (c .flash) = ap (λ x. x .flash) (k .lengths) in
+      let w : length (handled .core .words) ≡ length (c .words) = ap (λ x. x .words) (k .lengths) in
+      record { rooms = rw (n, f, w, full-length) (a .rooms); pending = pend-opened full; sound = k .sound }
+
+-- the core that a start begins with
+abbrev pub freshCore : Lending → Core
+freshCore r = coreOf freshLoader (r .flash) (r .words)
+
+pub allowed-fresh : (r : Lending) → Allowed fresh (freshCore r) (r .packet) (r .answer) none
+unfolding sessionGood attachGood
+allowed-fresh r = record { rooms = r .pass; pending = pend-fresh (r .packet); sound = record { session = refl; attach = refl } }
+
+-- the loader stands between packets with the core c, and no refusal applies
+pub record Idle (s : Step) (c : Core) : Type 0 where
+  pub told : Told
+  pub at : Line
+  pub room : List ℕ
+  pub answer : List ℕ
+  pub pending : Option (List ℕ)
+  pub is : s ≡ state told at c room answer
+  pub allowed : Allowed at c room answer pending
+  pub opens : stepOf at END room ≡ silent (line Inside 0) room
+
+pub idle-fresh : (r : Lending) → Idle (begun r) (freshCore r)
+unfolding begun stepOf
+idle-fresh r =
+    record {
+      told = taken;
+      at = fresh;
+      room = r .packet;
+      answer = r .answer;
+      pending = none;
+      is = refl;
+      allowed = allowed-fresh r;
+      opens = refl;
+    }
+
+-- a framed packet is handled, and the loader is idle again
+pub idle-after : {s : Step} {c : Core} → Idle s c → (p : List ℕ) → 1 ≤ length p → length p ≤ longest
+    → Idle (fed s (framed p)) (handle c (header (some p)) .core)
+unfolding stepOf
+idle-after {s} {c} b p filled fits =
+    record {
+      told = _;
+      at = line Inside 0;
+      room = _;
+      answer = _;
+      pending = some [];
+      is = ap (λ x. fed x (framed p)) (b .is) ∙ packet-fed (b .told) (b .at) c (b .room) (b .answer) (b .allowed) (b .opens) p filled fits;
+      allowed = allowed-after (b .told) (b .at) c (b .room) (b .answer) (b .allowed) (b .opens) p filled fits;
+      opens = refl;
+    }

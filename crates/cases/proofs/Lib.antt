@@ -1,0 +1,5 @@
+pub mod Fed
+pub mod Answers
+pub mod Blocks
+pub mod Linked
+pub mod Cases

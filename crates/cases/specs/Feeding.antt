@@ -1,0 +1,50 @@
+-- A line fed to a fresh loader: call after call, each lent the rooms as the call before left them.
+use mathlib.Core.Path.{_≡_}
+use mathlib.Core.List.{List, [], _∷_, _++_}
+use Prim.Native.Nat.{ℕ}
+use lib.ListN.{take}
+use Rattle.rooms.specs.Checks.{first}
+use Rattle.framing.specs.Frame.{framed}
+use Rattle.loader.specs.Refusals.{roomChecks}
+use Rattle.loader.specs.Step.{Step, Told, refused, taken, dropped, answered, freshLoader, roomsOf, step}
+
+-- rooms that refusals 1 to 4 let pass
+pub record Lending : Type 0 where
+  pub packet : List ℕ
+  pub answer : List ℕ
+  pub flash : List ℕ
+  pub words : List ℕ
+  pub pass : first (roomChecks (roomsOf packet answer flash words)) ≡ 0
+
+-- a fresh record and its rooms, before any call
+unfoldable pub begun : Lending → Step
+begun r =
+    record {
+      told = taken;
+      loader = freshLoader;
+      packet = r .packet;
+      answer = r .answer;
+      flash = r .flash;
+      words = r .words;
+    }
+
+-- what the last of the calls comes to. `step` is the definition that the contract of `feed` cites.
+unfoldable pub fed : Step → List ℕ → Step
+fed s [] = s
+fed s (b ∷ bs) = fed (step (s .loader) b (s .packet) (s .answer) (s .flash) (s .words)) bs
+
+-- packets framed, one after the other
+unfoldable pub framedAll : List (List ℕ) → List ℕ
+framedAll [] = []
+framedAll (p ∷ ps) = framed p ++ framedAll ps
+
+-- how many bytes of answer a call tells
+unfoldable pub sentCount : Told → ℕ
+sentCount (refused n) = 0
+sentCount taken = 0
+sentCount (dropped n) = 0
+sentCount (answered n c s e sent note) = sent
+
+-- the bytes that the last call of a line sends, from a fresh loader on
+unfoldable pub sends : Lending → List ℕ → List ℕ
+sends r line = take (sentCount (fed (begun r) line .told)) (fed (begun r) line .answer)

@@ -1,0 +1,4 @@
+pub mod Feeding
+pub mod LinkCalls
+pub mod Packets
+pub mod Cases

@@ -1,0 +1,25 @@
+-- Calls of the link, as the cases speak of them.
+use mathlib.Core.Path.{_≡_}
+use mathlib.Core.List.{List, [], _∷_}
+use Prim.Native.Nat.{ℕ}
+use lib.ListN.{length, take}
+use Rattle.rooms.specs.Checks.{first}
+use Rattle.link.specs.Answers.{Step}
+use Rattle.link.specs.Step.{checks, byteStep}
+use Rattle.link.specs.declared.Link.{Link}
+use Rattle.link.specs.declared.Phase.the-variants.{Start}
+
+-- the record after bytes that are received one after the other at one tick, with a room lent anew to each call
+unfoldable pub receives : Link → ℕ → List ℕ → List ℕ → Link
+receives l tick room [] = l
+receives l tick room (b ∷ bs) = receives (byteStep l b tick room .link) tick room bs
+
+-- the bytes that a call sends
+unfoldable pub linkSends : Step → List ℕ
+linkSends s = take (s .count) (s .room)
+
+-- a link outside Start that was last active at a tick, and a room with which a poll is not refused
+pub record Polled (l : Link) (room : List ℕ) (last : ℕ) : Type 0 where
+  pub unrefused : first (checks l (length room)) ≡ 0
+  pub active : l .last ≡ last
+  pub outside : l .phase ≡ Start → ⊥

@@ -1,0 +1,30 @@
+-- The packets that the cases speak of.
+use mathlib.Core.Path.{_≡_}
+use mathlib.Core.List.{List, _∷_, _++_}
+use Prim.Native.Nat.{ℕ, _<_}
+use lib.ListN.{length, getD, replicate}
+use Rattle.fields.specs.Words.{bytesOf}
+use Rattle.fields.specs.Checksum.{checksum}
+
+-- SYNC with this size field: "07 07 12 20 and then" so many "times 55"
+abbrev pub syncPacket : ℕ → ℕ → List ℕ
+syncPacket size times =
+    0x00 ∷ 0x08 ∷ size ∷ 0x00 ∷ 0x00 ∷ 0x00 ∷ 0x00 ∷ 0x00
+    ∷ 0x07 ∷ 0x07 ∷ 0x12 ∷ 0x20 ∷ replicate times 0x55
+
+-- FLASH_BEGIN: "size S, count n, block size b, offset"
+abbrev pub beginPacket : ℕ → ℕ → ℕ → ℕ → List ℕ
+beginPacket size count block offset =
+    0x00 ∷ 0x02 ∷ 0x10 ∷ 0x00 ∷ 0x00 ∷ 0x00 ∷ 0x00 ∷ 0x00
+    ∷ (bytesOf size ++ (bytesOf count ++ (bytesOf block ++ bytesOf offset)))
+
+-- the data of a block: 1,024 bytes
+pub record Block (bytes : List ℕ) : Type 0 where
+  pub full : length bytes ≡ 1024
+  pub each : (i : ℕ) → getD bytes i 0 < 256
+
+-- FLASH_DATA: "data size, sequence, 0, 0, data", for 1,024 bytes
+abbrev pub dataPacket : ℕ → List ℕ → List ℕ
+dataPacket sequence bytes =
+    0x00 ∷ 0x03 ∷ 0x10 ∷ 0x04 ∷ (bytesOf (checksum bytes)
+    ++ (bytesOf 1024 ++ (bytesOf sequence ++ (bytesOf 0 ++ (bytesOf 0 ++ bytes)))))

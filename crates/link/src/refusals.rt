@@ -1,0 +1,62 @@
+// The refusals of every call, and those of a call that sends, by their numbers.
+use crate::Event;
+use crate::Link;
+use crate::Next;
+use crate::Phase;
+use crate::Told;
+use crate::state;
+ghost use mathlib.Core.Path.{_≡_};
+ghost use mathlib.Core.Bool.{true, false};
+ghost use mathlib.Core.List.{List};
+ghost use Prim.Native.Nat.{ℕ};
+ghost use Rattle.rooms.specs.Checks.{first};
+ghost use Rattle.link.specs.Answers.{came, refusal};
+ghost use Rattle.link.specs.Link.{byPhase};
+ghost use Rattle.link.specs.Step.{checks, sendChecks};
+
+// The refusals of pull, byte and poll; 0 where there is none.
+pub fn judge(link: Link, room: usize) -> u8
+    ensures { λ r. ⌜ r ≡ first (checks link room) ⌝ }
+{
+    rooms::check(state::is_sound(link), 5, rooms::check(67 <= room, 8, 0))
+}
+
+// Whether data can be sent in this phase at all.
+pub fn is_open(phase: Phase) -> bool
+    ensures { λ r. ⌜ r ≡ byPhase phase false false true ⌝ }
+{
+    match phase {
+        Phase::Start => false,
+        Phase::Baud => false,
+        Phase::Open => true,
+    }
+}
+
+// The refusals of send; 5 judges the record as it came, the others the record after the silence and dead time checks.
+pub fn judge_send(link: Link, later: Link, count: usize, room: usize) -> u8
+    ensures { λ r. ⌜ r ≡ first (sendChecks link later count room) ⌝ }
+{
+    let phase = later.phase;
+    let alive = !later.dead;
+    let rpc = later.rpc;
+    let free = !later.outstanding;
+    let fits = rooms::check(count <= 64, 14, rooms::check(67 <= room, 8, 0));
+    let ready = rooms::check(rpc, 11, rooms::check(free, 13, fits));
+    let open = rooms::check(is_open(phase), 10, rooms::check(alive, 12, ready));
+    rooms::check(state::is_sound(link), 5, open)
+}
+
+// A refused call: the record as it came, and nothing sent.
+pub fn refuse(link: Link, number: u8) -> Next
+    ensures { λ r. ⌜ ((room : List ℕ) → came (r .link) (r .told) room ≡ refusal number link room) ⌝ }
+{
+    Next {
+        link,
+        told: Told {
+            event: Event::Refused(number),
+            lost: false,
+            sent: 0,
+            bytes: [0u8; 64],
+        },
+    }
+}

@@ -1,0 +1,24 @@
+-- The link over a list of calls.
+use mathlib.Core.List.{List, [], _∷_}
+use Prim.Native.Nat.{ℕ}
+use Rattle.link.specs.Answers.{Step}
+use Rattle.link.specs.Step.{pullStep, byteStep, pollStep, sendStep}
+use Rattle.link.specs.declared.Link.{Link}
+
+-- a call: a byte that is received or bytes that are to be sent, the tick, and the answer room that is lent
+pub data Call : Type 0 where
+  pull : ℕ → List ℕ → Call
+  byte : ℕ → ℕ → List ℕ → Call
+  poll : ℕ → List ℕ → Call
+  send : List ℕ → ℕ → List ℕ → Call
+
+unfoldable pub step : Link → Call → Step
+step l (pull tick room) = pullStep l tick room
+step l (byte b tick room) = byteStep l b tick room
+step l (poll tick room) = pollStep l tick room
+step l (send bytes tick room) = sendStep l bytes tick room
+
+-- the record that the last of the calls hands back
+unfoldable pub after : Link → List Call → Link
+after l [] = l
+after l (c ∷ cs) = after (step l c .link) cs

@@ -1,0 +1,4 @@
+pub mod Calls
+pub mod Sound
+pub mod Frames
+pub mod Decides

@@ -1,0 +1,1 @@
+// What holds of the link over many calls: the statements are in specs/, and nothing here runs.
