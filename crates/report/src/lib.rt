@@ -1,0 +1,222 @@
+// The lines of the listing, and the call that lists a received byte.
+use loader::Answer;
+use loader::Loader;
+ghost use mathlib.Core.Path.{_≡_};
+ghost use mathlib.Core.List.{_++_};
+ghost use Prim.Native.Nat.{_+_, _≤_, _<_};
+ghost use lib.ListN.{length};
+ghost use Rattle.rooms.specs.Lay.{lay};
+ghost use Rattle.loader.specs.Answer.{statusOf};
+ghost use Rattle.loader.specs.Step.{told, step};
+ghost use Rattle.report.specs.Numbers.{hexDigit, hex2, decimal};
+ghost use Rattle.report.specs.Lines.{heading as Lines·heading};
+ghost use Rattle.report.specs.Lines.{fieldsOf, dashes, lineOf, Appends};
+ghost use Rattle.report.specs.Listing.{freshListing, numberAfter, Lists};
+
+// The room that holds every line: a number of 20 digits, and 10 bytes.
+pub const LONGEST_LINE: usize = 30;
+
+const TAB: u8 = b'\t';
+
+const LINE_FEED: u8 = b'\n';
+
+const DASH: u8 = b'-';
+
+// The heading's bytes; a byte's two digits; what stands behind a line's number.
+pub type HeadingBytes = [u8; 24];
+
+pub type HexDigits = [u8; 2];
+
+type RowFields = [u8; 10];
+
+// A loader, and the number of the next packet.
+pub struct Listing {
+    pub loader: Loader,
+    pub number: u64,
+}
+
+// The next state, and how many bytes of the text's room are used.
+pub struct Listed {
+    pub listing: Listing,
+    pub used: usize,
+}
+
+// ---- numbers
+
+fn hex_digit(d: u8) -> u8
+    requires { ⌜ d < 16 ⌝ }
+    ensures { λ r. ⌜ r ≡ hexDigit d ⌝ }
+{
+    if d < 10 { b'0' + d } else { b'A' + (d - 10) }
+}
+
+// A byte as two hexadecimal digits, in upper case.
+pub fn hex(byte: u8) -> HexDigits
+    ensures { λ r. ⌜ r ≡ hex2 byte ⌝ }
+{
+    [hex_digit(byte / 16), hex_digit(byte % 16)]
+}
+
+// A digit below 10.
+fn decimal_digit(d: u64) -> u8
+    requires { ⌜ d < 10 ⌝ }
+    ensures { λ r. ⌜ r ≡ 48 + d ⌝ }
+{
+    b'0' + d as u8
+}
+
+// A number in decimal from `at` on; the next place.
+fn put_decimal(number: u64, room: &mut [u8], at: usize) -> usize
+    requires { ⌜ at + length (decimal number) ≤ length (now room) ⌝ }
+    ensures { λ r. ⌜ (r ≡ at + length (decimal number)) × (now (room .exit) ≡ lay (now (room .entry)) at (decimal number)) ⌝ }
+{
+    if number < 10 {
+        room[at] = decimal_digit(number);
+        return at + 1;
+    }
+    let last = put_decimal(number / 10, room, at);
+    room[last] = decimal_digit(number % 10);
+    last + 1
+}
+
+// ---- lines
+
+// The listing's first line.
+pub fn heading() -> HeadingBytes
+    ensures { λ r. ⌜ r ≡ Lines·heading ⌝ }
+{
+    *b"no\tcommand\tstatus\terror\n"
+}
+
+fn status_of(error: u8) -> u8
+    ensures { λ r. ⌜ r ≡ statusOf error ⌝ }
+{
+    if error == 0 {
+        return 0;
+    }
+    1
+}
+
+// What follows the number of a packet that was read.
+fn read_fields(command: u8, error: u8) -> RowFields
+    ensures { λ r. ⌜ r ≡ fieldsOf (hex2 command) (hex2 (statusOf error)) (hex2 error) ⌝ }
+{
+    let c = hex(command);
+    let s = hex(status_of(error));
+    let e = hex(error);
+    [TAB, c[0], c[1], TAB, s[0], s[1], TAB, e[0], e[1], LINE_FEED]
+}
+
+// What follows the number of a packet that was dropped.
+fn dropped_fields() -> RowFields
+    ensures { λ r. ⌜ r ≡ fieldsOf dashes dashes dashes ⌝ }
+{
+    [TAB, DASH, DASH, TAB, DASH, DASH, TAB, DASH, DASH, LINE_FEED]
+}
+
+fn copy_at(room: &mut [u8], at: usize, text: &[u8])
+    requires { ⌜ at + length (now text) ≤ length (now room) ⌝ }
+    ensures { λ r. ⌜ now (room .exit) ≡ lay (now (room .entry)) at (now (text .entry)) ⌝ }
+{
+    let mut i: usize = 0;
+    while i < text.len() {
+        room[at + i] = text[i];
+        i += 1;
+    }
+}
+
+// A line of a number and the fields behind it, from `used` on, where the room has the space; how many bytes are used then.
+fn write_row(number: u64, fields: &[u8], room: &mut [u8], used: usize) -> usize
+    requires { ⌜ used + (length (decimal number) + length (now fields)) ≤ length (now room) ⌝ }
+    ensures { λ r. ⌜ (r ≡ used + length (decimal number ++ now (fields .entry))) × (now (room .exit) ≡ lay (now (room .entry)) used (decimal number ++ now (fields .entry))) ⌝ }
+{
+    let at = put_decimal(number, room, used);
+    copy_at(room, at, fields);
+    at + fields.len()
+}
+
+// The line of a call of the loader, behind the used bytes of a room; how many are used then. Where fewer than 30 bytes are left, nothing is written.
+pub fn line(number: u64, answer: Answer, room: &mut [u8], used: usize) -> usize
+    ensures { λ r. ⌜ Appends (lineOf number (told answer)) (now (room .entry)) used r (now (room .exit)) ⌝ }
+{
+    if room.len() < LONGEST_LINE {
+        return used;
+    }
+    if room.len() - LONGEST_LINE < used {
+        return used;
+    }
+    match answer {
+        Answer::Refused(_) => used,
+        Answer::Taken => used,
+        Answer::Dropped { stored: _ } => {
+            let fields = dropped_fields();
+            write_row(number, &fields, room, used)
+        }
+        Answer::Answered {
+            stored: _,
+            command,
+            error,
+            sent: _,
+            note: _,
+        } => {
+            let fields = read_fields(command, error);
+            write_row(number, &fields, room, used)
+        }
+    }
+}
+
+// ---- the listing
+
+pub fn new() -> Listing
+    ensures { λ r. ⌜ r ≡ freshListing ⌝ }
+{
+    Listing {
+        loader: loader::new(),
+        number: 1,
+    }
+}
+
+// The number of the packet after a call.
+fn next_number(answer: Answer, number: u64) -> u64
+    ensures { λ r. ⌜ r ≡ numberAfter (told answer) number ⌝ }
+{
+    match answer {
+        Answer::Refused(_) => number,
+        Answer::Taken => number,
+        Answer::Dropped { stored: _ } => std::num::wrapping_add_u64(number, 1),
+        Answer::Answered {
+            stored: _,
+            command: _,
+            error: _,
+            sent: _,
+            note: _,
+        } => std::num::wrapping_add_u64(number, 1),
+    }
+}
+
+// One received byte, fed to the loader; where it closes a packet, the packet's line is written behind the used bytes of `text`.
+pub fn feed(
+    listing: Listing,
+    byte: u8,
+    packet: &mut [u8],
+    answer: &mut [u8],
+    flash: &mut [u8],
+    words: &mut [u32],
+    text: &mut [u8],
+    used: usize,
+) -> Listed
+    ensures { λ r. ⌜ Lists (step (listing .loader) byte (now (packet .entry)) (now (answer .entry)) (now (flash .entry)) (now (words .entry))) (listing .number) (now (text .entry)) used r (now (packet .exit)) (now (answer .exit)) (now (flash .exit)) (now (words .exit)) (now (text .exit)) ⌝ }
+{
+    let number = listing.number;
+    let fed = loader::feed(listing.loader, byte, packet, answer, flash, words);
+    let said = fed.answer;
+    let next = fed.loader;
+    let longer = line(number, said, text, used);
+    Listed {
+        listing: Listing {
+            loader: next,
+            number: next_number(said, number),
+        },
+        used: longer,
+    }
+}

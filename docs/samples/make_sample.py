@@ -1,0 +1,445 @@
+#!/usr/bin/env python3
+"""The sample capture of the listing, and what the listing has to print for it.
+
+  make_sample.py DIR              write DIR/stdin and DIR/stdout (the repository's: crates/listing)
+  make_sample.py DIR --check      say whether the two files are those, and write nothing
+  make_sample.py --large MIB FILE [TEXT]
+                                  write a capture of about so many MiB, to time the listing with, and its listing to TEXT
+
+What is printed is worked out here from document 01 alone, by the class Chip. Each packet of the sample also says what
+it is there for and what it has to get, and a packet that gets something else stops the script.
+"""
+import pathlib
+import struct
+import sys
+
+END, ESC = 0xC0, 0xDB
+WORDS_AT = 0x40100000
+SECTOR = 4096
+LONGEST = 4120
+DROPPED = None
+
+
+# ---- document 01, the chip's end
+
+def up(x, step):
+    return (x + step - 1) // step * step
+
+
+def checksum(data):
+    value = 0xEF
+    for byte in data:
+        value ^= byte
+    return value
+
+
+class Chip:
+    """A fresh loader with 64 KiB of 0xFF flash and 4,096 zero words. `feed` answers None, or what a closed packet got."""
+
+    LENGTHS = {0x02: 16, 0x04: 4, 0x05: 16, 0x06: 8, 0x08: 36, 0x09: 16, 0x0A: 4, 0x0D: 4}
+    DATA = (0x03, 0x07)
+    COMMANDS = (0x02, 0x03, 0x04, 0x05, 0x06, 0x07, 0x08, 0x09, 0x0A, 0x0D)
+
+    def __init__(self):
+        self.flash = bytearray(b"\xFF" * 65536)
+        self.words = [0] * 4096
+        self.attach = 0
+        self.session = None
+        self.opened = False
+        self.stretch = bytearray()
+
+    # framing: the stretch between two C0, unescaped when it is closed
+
+    def feed(self, byte):
+        if byte != END:
+            if self.opened:
+                self.stretch.append(byte)
+            return None
+        stretch, self.stretch = self.stretch, bytearray()
+        opened, self.opened = self.opened, True
+        if not opened or not stretch:
+            return None
+        return self.closed(stretch)
+
+    @staticmethod
+    def unescape(stretch):
+        packet, at = bytearray(), 0
+        while at < len(stretch):
+            byte = stretch[at]
+            if byte == ESC:
+                at += 1
+                if at == len(stretch) or stretch[at] not in (0xDC, 0xDD):
+                    return None
+                byte = END if stretch[at] == 0xDC else ESC
+            packet.append(byte)
+            if len(packet) > LONGEST:
+                return None
+            at += 1
+        return packet
+
+    def closed(self, stretch):
+        """(command, status, error) of a packet that is read, () of one that is dropped."""
+        packet = self.unescape(stretch)
+        if packet is None or len(packet) < 8 or packet[0] != 0:
+            return ()
+        command, size, total = struct.unpack_from("<xBHI", packet)
+        body = bytes(packet[8:])
+        error = self.error(command, size, total, body)
+        if error == 0:
+            self.carry_out(command, body)
+        return (command, 1 if error else 0, error)
+
+    # commands: the table of errors, from the top
+
+    def error(self, command, size, total, body):
+        if command not in self.COMMANDS:
+            return 0xFF
+        if size != len(body):
+            return 0xC0
+        data = command in self.DATA
+        if data and (len(body) < 16 or struct.unpack_from("<I", body)[0] != len(body) - 16):
+            return 0xC0
+        if not data and len(body) != self.LENGTHS[command]:
+            return 0xC0
+        word = struct.unpack("<%dI" % (len(body[:16]) // 4), body[:len(body[:16]) // 4 * 4])
+        kind = {0x03: "flash", 0x04: "flash", 0x06: "memory", 0x07: "memory"}.get(command)
+        s = self.session
+        if kind and (s is None or s["kind"] != kind):
+            return 0xC6
+        if data and word[0] != s["b"]:
+            return 0xC2
+        if not self.parameters(command, word, body):
+            return 0xC5
+        if data:
+            if s["k"] == s["n"]:
+                return 0xC9
+            if word[1] != s["k"]:
+                return 0xC3
+            if total != checksum(body[16:]):
+                return 0xC1
+            kept = min((s["k"] + 1) * s["b"], s["S"]) - min(s["k"] * s["b"], s["S"])
+            if any(byte != 0xFF for byte in body[16 + kept:]):
+                return 0xC4
+        if command in (0x04, 0x06) and s["k"] < s["n"]:
+            return 0xC8
+        return 0
+
+    def parameters(self, command, word, body):
+        end = WORDS_AT + 4 * len(self.words)
+        if command in (0x02, 0x05):
+            S, n, b, offset = word
+            if not 1 <= b <= 4096 or n != up(S, b) // b:
+                return False
+            if command == 0x02:
+                return offset % SECTOR == 0 and offset + up(S, SECTOR) <= len(self.flash)
+            return S % 4 == b % 4 == offset % 4 == 0 and offset >= WORDS_AT and offset + S <= end
+        if command in self.DATA:
+            return word[2] == 0 and word[3] == 0
+        if command == 0x04:
+            return word[0] in (0, 1)
+        if command == 0x06:
+            return word[0] == 1 or word[0] == 0 and WORDS_AT <= word[1] < end
+        if command == 0x08:
+            return body == b"\x07\x07\x12\x20" + b"\x55" * 32
+        if command in (0x09, 0x0A):
+            inside = word[0] % 4 == 0 and WORDS_AT <= word[0] < end
+            return inside and (command == 0x0A or word[3] == 0)
+        fields = [word[0] >> shift & 63 for shift in (24, 18, 12, 6, 0)]
+        return word[0] in (0, 1) or word[0] >> 30 == 0 and all(field <= 31 for field in fields)
+
+    def carry_out(self, command, body):
+        word = struct.unpack("<%dI" % (len(body[:16]) // 4), body[:len(body[:16]) // 4 * 4])
+        s = self.session
+        if command in (0x02, 0x05):
+            kind = "flash" if command == 0x02 else "memory"
+            self.session = dict(kind=kind, S=word[0], n=word[1], b=word[2], offset=word[3], k=0)
+        elif command in self.DATA:
+            old = min(s["k"] * s["b"], s["S"])
+            s["k"] += 1
+            new = min(s["k"] * s["b"], s["S"])
+            data = body[16:16 + new - old]
+            if command == 0x03:
+                self.flash[s["offset"] + old:s["offset"] + new] = data
+                self.flash[s["offset"] + new:s["offset"] + up(new, SECTOR)] = b"\xFF" * (up(new, SECTOR) - new)
+            else:
+                at = (s["offset"] + old - WORDS_AT) // 4
+                self.words[at:at + len(data) // 4] = struct.unpack("<%dI" % (len(data) // 4), data)
+        elif command in (0x04, 0x06):
+            self.session = None
+        elif command == 0x09:
+            at = (word[0] - WORDS_AT) // 4
+            self.words[at] = self.words[at] & ~word[2] | word[1] & word[2]
+        elif command == 0x0D:
+            self.attach = word[0]
+
+
+# ---- the host's end: packets as they stand on the line
+
+def words(*values):
+    return struct.pack("<%dI" % len(values), *values)
+
+
+def packet(command, body, total=0, size=None, direction=0):
+    return struct.pack("<BBHI", direction, command, len(body) if size is None else size, total) + body
+
+
+def block(command, sequence, data, third=0, fourth=0, total=None, length=None):
+    body = words(len(data) if length is None else length, sequence, third, fourth) + data
+    return packet(command, body, checksum(data) if total is None else total)
+
+
+def escaped(raw):
+    return raw.replace(b"\xDB", b"\xDB\xDD").replace(b"\xC0", b"\xDB\xDC")
+
+
+def framed(raw):
+    return b"\xC0" + escaped(raw) + b"\xC0"
+
+
+SYNC = packet(0x08, b"\x07\x07\x12\x20" + b"\x55" * 32)
+
+
+def image(size, seed):
+    """Bytes that are all different from their neighbours, C0 and DB among them."""
+    return bytes((seed + 7 * at + at // 256) % 256 for at in range(size))
+
+
+def load(kind, S, b, offset, data, last):
+    """The packets of a whole load: BEGIN, blocks padded by FF, END."""
+    begin, one, end = (0x02, 0x03, 0x04) if kind == "flash" else (0x05, 0x07, 0x06)
+    n = up(S, b) // b
+    yield packet(begin, words(S, n, b, offset))
+    for k in range(n):
+        yield block(one, k, data[k * b:(k + 1) * b].ljust(b, b"\xFF"))
+    yield packet(end, last)
+
+
+# ---- the sample
+
+class Capture:
+    def __init__(self):
+        self.bytes = bytearray()
+        self.expected = []
+
+    def raw(self, line, why, *closes):
+        """Bytes of the line as they are, and what the packets that they close have to get."""
+        self.bytes += line
+        self.expected += [(close, why) for close in closes]
+
+    def send(self, request, why, error=0):
+        self.raw(framed(request), why, error)
+
+
+def sample():
+    c = Capture()
+    good = 0
+
+    c.raw(b"boot\xDB\xDB\x00\r\n", "bytes before the first C0, a bad escape among them, are ignored")
+    c.send(SYNC, "document 01's example: a good SYNC")
+    c.send(packet(0x04, words(0)), "and FLASH_END with word 0, no session open", 0xC6)
+    c.raw(b"\xC0\xC0\xC0\xC0", "empty stretches make no packet")
+
+    # a whole flash load, case 6's numbers, with every kind of dropped packet between
+    data = image(5000, 0xB0)
+    begin, b0, b1, b2, b3, b4, end = load("flash", 5000, 1024, 8192, data, words(1))
+    c.send(begin, "FLASH_BEGIN: 5,000 bytes in 5 blocks of 1,024 at 8,192")
+    c.send(b0, "block 0, with C0 and DB in its data")
+    c.raw(b"\xC0" + escaped(b1)[:40] + b"\xDB\x41" + escaped(b1)[40:] + b"\xC0", "a bad escape, DB 41", DROPPED)
+    c.send(b1, "block 1 again, whole")
+    c.raw(b"\xC0" + escaped(b2)[:60] + b"\xDB\xC0", "an escape cut by the closing C0", DROPPED)
+    c.raw(escaped(b2) + b"\xC0", "block 2, opened by that C0", good)
+    c.raw(b"\xDB\xC0", "a cut escape with no byte stored: a packet all the same", DROPPED)
+    c.raw(b"\xC0" + b"\x00\x08" + b"\x55" * 4119 + b"\xC0", "4,121 bytes", DROPPED)
+    c.raw(b"\xC0" + b"\x00\x08" + b"\x55" * 4118 + b"\xDB\x41\xC0", "4,120 bytes and then a bad escape", DROPPED)
+    c.raw(b"\xC0" + b"\x00\x08" + b"\x55" * 4118 + b"\xDB\xDC\x11\xDB\xC0", "4,120 bytes, an escaped one too many, and more", DROPPED)
+    c.send(SYNC[:7], "7 bytes", DROPPED)
+    c.send(b"\x00", "1 byte", DROPPED)
+    c.send(packet(0x08, words(0), direction=1), "direction 1: an answer", DROPPED)
+    c.send(packet(0x04, words(0), direction=0xC0), "direction C0, escaped", DROPPED)
+    c.send(b3, "block 3: the drops changed nothing")
+    c.send(end, "FLASH_END while block 4 is missing", 0xC8)
+    c.send(b4, "block 4, 904 bytes and 120 times FF")
+    c.send(block(0x03, 5, data[:1024]), "a sixth block", 0xC9)
+    c.send(block(0x03, 0, data[:1024], total=0), "all blocks are accepted: before sequence and checksum", 0xC9)
+    c.send(end, "FLASH_END, stay")
+    c.send(end, "the session is closed", 0xC6)
+
+    # each error of a data command, in the order of the checks
+    c.send(packet(0x02, words(7000, 2, 4096, 0)), "FLASH_BEGIN of two blocks, the second with 2,904 bytes of data")
+    d0, d1 = image(4096, 0x11), image(2904, 0x22)
+    c.send(packet(0x03, words(0, 0, 0)), "data under 16 bytes", 0xC0)
+    c.send(block(0x03, 0, d0, length=4095), "the data size field is not the length less 16", 0xC0)
+    c.send(packet(0x03, words(4096, 0, 0, 0) + d0[:4000], size=4112), "the size field is not the body's length", 0xC0)
+    c.send(block(0x07, 0, d0), "MEM_DATA in a flash session", 0xC6)
+    c.send(packet(0x06, words(1, 0)), "MEM_END in a flash session", 0xC6)
+    c.send(block(0x03, 0, d0[:4095]), "a byte short of the announced block", 0xC2)
+    c.send(block(0x03, 0, d0[:512], third=1), "the block's size comes before its third word", 0xC2)
+    c.send(block(0x03, 0, d0, third=1), "the third word is not 0", 0xC5)
+    c.send(block(0x03, 0, d0, fourth=0x1000000), "the fourth word is not 0", 0xC5)
+    c.send(block(0x03, 7, d0, third=1), "the third word comes before the sequence", 0xC5)
+    c.send(block(0x03, 1, d0), "block 1 before block 0", 0xC3)
+    c.send(block(0x03, 1, d0, total=0), "the sequence comes before the checksum", 0xC3)
+    c.send(block(0x03, 0, d0, total=checksum(d0) ^ 1), "a wrong checksum", 0xC1)
+    c.send(block(0x03, 0, d0, total=checksum(d0) + 0x100), "right in its low byte alone", 0xC1)
+    c.send(block(0x03, 0, d0), "a packet of 4,120 bytes, the longest")
+    c.send(block(0x03, 0, d0), "block 0 again", 0xC3)
+    c.send(block(0x03, 1, d1.ljust(4096, b"\x00")), "bytes past the announced size are not FF", 0xC4)
+    c.send(block(0x03, 1, d1.ljust(4095, b"\xFF") + b"\xFE"), "the last of them is not", 0xC4)
+    c.send(block(0x03, 1, d1.ljust(4095, b"\xFF") + b"\xFE", total=0), "the checksum comes before them", 0xC1)
+    c.send(packet(0x04, words(2)), "FLASH_END with 2: its word comes before the missing block", 0xC5)
+    c.send(packet(0x04, words(0)), "a block is missing", 0xC8)
+    c.send(packet(0x02, words(7000, 2, 0, 0)), "a FLASH_BEGIN that fails keeps the session", 0xC5)
+    c.send(block(0x03, 1, d1.ljust(4096, b"\xFF")), "block 1")
+    c.send(packet(0x04, words(0, 0)), "FLASH_END of two words", 0xC0)
+    c.send(packet(0x04, words(0)), "FLASH_END, reboot")
+
+    # FLASH_BEGIN's rules
+    for S, n, b, offset, why, error in (
+        (5000, 4, 1024, 8192, "n 4 for 5,000 bytes", 0xC5),
+        (5000, 6, 1024, 8192, "n 6", 0xC5),
+        (4096, 1, 4096, 61440, "the last sector", good),
+        (4097, 2, 4096, 61440, "a byte past it", 0xC5),
+        (1, 1, 4096, 65536, "past the flash", 0xC5),
+        (0, 0, 1, 65536, "nothing at the very end", good),
+        (0, 1, 1, 0, "n 1 for nothing", 0xC5),
+        (0, 0, 0, 0, "block size 0", 0xC5),
+        (4097, 1, 4097, 0, "block size 4,097", 0xC5),
+        (4096, 1, 4096, 100, "an offset in the middle of a sector", 0xC5),
+        (0xFFFFFFFF, 0x100000, 4096, 4096, "a size that rounds up to 2 to the 32", 0xC5),
+        (4096, 1, 4096, 0xFFFFF000, "an offset whose sum with the size runs over 32 bits", 0xC5),
+        (65536, 65536, 1, 0, "all of the flash, a byte at a time", good),
+    ):
+        c.send(packet(0x02, words(S, n, b, offset)), "FLASH_BEGIN: " + why, error)
+    c.send(packet(0x02, words(0, 0, 16, 0)), "a FLASH_BEGIN of nothing drops the open session")
+    c.send(packet(0x04, words(1)), "no block is missing")
+
+    # the neighbour's sector: the last block reaches past the announced size
+    for request in load("flash", 4096, 3000, 4096, image(4096, 0x77), words(1)):
+        c.send(request, "4,096 bytes in 2 blocks of 3,000")
+
+    # a whole load of memory, and what it left
+    begin, m0, m1, end = load("memory", 12, 8, WORDS_AT + 16, image(12, 0xBD), words(1, 0xDEADBEEF))
+    c.send(begin, "MEM_BEGIN: 12 bytes in 2 blocks of 8")
+    c.send(m0, "block 0")
+    c.send(block(0x03, 1, b"\x00" * 8), "FLASH_DATA in a memory session", 0xC6)
+    c.send(packet(0x04, words(1)), "FLASH_END in a memory session", 0xC6)
+    c.send(end, "MEM_END while block 1 is missing", 0xC8)
+    c.send(m1, "block 1, 4 bytes and 4 times FF")
+    c.send(packet(0x06, words(2, WORDS_AT)), "MEM_END with flag 2", 0xC5)
+    c.send(packet(0x06, words(0, WORDS_AT + 16384)), "a jump past the words", 0xC5)
+    c.send(packet(0x06, words(0, WORDS_AT - 1)), "a jump before them", 0xC5)
+    c.send(packet(0x06, words(0)), "MEM_END of one word", 0xC0)
+    c.send(end, "MEM_END, stay: the entry is not looked at")
+    c.send(packet(0x0A, words(WORDS_AT + 16)), "READ_REG of a loaded word")
+    c.send(packet(0x09, words(WORDS_AT, 0x12345678, 0xFFFFFFFF, 0)), "WRITE_REG")
+    c.send(packet(0x09, words(WORDS_AT, 0xFFFF0000, 0x00FF00FF, 0)), "WRITE_REG under a mask")
+    c.send(packet(0x0A, words(WORDS_AT)), "READ_REG of 12FF5600")
+    for request in load("memory", 16384, 4096, WORDS_AT, image(16384, 0x01), words(0, WORDS_AT + 16383)):
+        c.send(request, "all of the words, and a jump to the last byte")
+
+    # MEM_BEGIN's rules
+    for S, n, b, offset, why in (
+        (10, 1, 12, WORDS_AT, "a size of 10"),
+        (12, 2, 6, WORDS_AT, "a block size of 6"),
+        (0, 0, 0, WORDS_AT, "a block size of 0"),
+        (12, 1, 12, WORDS_AT + 2, "an address between words"),
+        (12, 1, 12, WORDS_AT - 4, "an address below the words"),
+        (16, 1, 16, WORDS_AT + 16372, "an end past the words"),
+        (4100, 1, 4100, WORDS_AT, "a block size of 4,100"),
+        (12, 2, 12, WORDS_AT, "n 2 for one block"),
+    ):
+        c.send(packet(0x05, words(S, n, b, offset)), "MEM_BEGIN: " + why, 0xC5)
+    c.send(packet(0x05, words(0, 0, 4)), "MEM_BEGIN of three words", 0xC0)
+    c.send(packet(0x05, words(0, 0, 4, WORDS_AT + 16384)), "nothing at the very end")
+    c.send(packet(0x06, words(0, WORDS_AT + 1)), "a jump between words")
+
+    # the commands without a session
+    c.send(packet(0x08, SYNC[8:43]), "SYNC of 35 bytes", 0xC0)
+    c.send(packet(0x08, SYNC[8:43] + b"\x54"), "SYNC with a wrong last byte", 0xC5)
+    c.send(packet(0x08, b"\x07\x07\x20\x12" + b"\x55" * 32), "SYNC with two bytes changed over", 0xC5)
+    c.send(packet(0x08, SYNC[8:], size=35), "SYNC with a wrong size field", 0xC0)
+    c.send(packet(0x08, SYNC[8:], total=0x12345678), "SYNC: its checksum field is not compared")
+    c.send(packet(0x0A, words(WORDS_AT + 16384)), "READ_REG past the words", 0xC5)
+    c.send(packet(0x0A, words(WORDS_AT + 2)), "READ_REG between words", 0xC5)
+    c.send(packet(0x0A, words(WORDS_AT, 0)), "READ_REG of two words", 0xC0)
+    c.send(packet(0x0A, words(0x6001A00C)), "the READ_REG of document 003's trace", 0xC5)
+    c.send(packet(0x09, words(WORDS_AT, 1, 1, 1)), "WRITE_REG with a delay", 0xC5)
+    c.send(packet(0x09, words(WORDS_AT - 4, 1, 1, 0)), "WRITE_REG before the words", 0xC5)
+    c.send(packet(0x09, words(WORDS_AT, 1, 1)), "WRITE_REG of three words", 0xC0)
+    c.send(packet(0x0D, words(0)), "SPI_ATTACH, default")
+    c.send(packet(0x0D, words(1)), "HSPI")
+    c.send(packet(0x0D, words(0x091C82C6)), "case 9's pins")
+    c.send(packet(0x0D, words(0x0000001F)), "CLK at pin 33, field 31")
+    c.send(packet(0x0D, words(0x00000020)), "field 32", 0xC5)
+    c.send(packet(0x0D, words(0x091C82C6 | 1 << 30)), "a bit above the five fields", 0xC5)
+    c.send(packet(0x0D, words(0, 0)), "SPI_ATTACH of two words, as the ESP32's ROM takes it", 0xC0)
+    for command in (0x00, 0x0B, 0x0C, 0x0E, 0x0F, 0x13, 0xC0, 0xD0, 0xDB, 0xFF):
+        c.send(packet(command, b""), "a command that is not in the list", 0xFF)
+    c.send(packet(0x0B, words(0), size=9), "and whose size is wrong: the command comes first", 0xFF)
+
+    # one C0 between two packets, and the end of the capture in the middle of one
+    c.raw(b"\xC0" + escaped(SYNC) + b"\xC0" + escaped(SYNC) + b"\xC0", "one C0 closes a packet and opens the next", good, good)
+    c.raw(escaped(SYNC), "a packet that nothing closes")
+    return c
+
+
+# ---- the listing
+
+def line(number, got):
+    fields = ["%02X" % value for value in got] if got else ["--"] * 3
+    return "\t".join([str(number)] + fields) + "\n"
+
+
+def listing(capture):
+    chip, text, answers = Chip(), ["no\tcommand\tstatus\terror\n"], []
+    for byte in capture:
+        got = chip.feed(byte)
+        if got is not None:
+            answers.append(got)
+            text.append(line(len(answers), got))
+    return "".join(text).encode(), answers
+
+
+def made():
+    capture = sample()
+    text, answers = listing(capture.bytes)
+    assert len(answers) == len(capture.expected), (len(answers), len(capture.expected))
+    for number, (got, (error, why)) in enumerate(zip(answers, capture.expected), 1):
+        has = got[2] if got else DROPPED
+        assert has == error, "packet %d (%s): %s, and %s was meant" % (number, why, got, error)
+    return bytes(capture.bytes), text
+
+
+def large(mib):
+    """Loads of all of the flash, and short packets behind each."""
+    out = bytearray()
+    turn = 0
+    while len(out) < mib << 20:
+        for request in load("flash", 65536, 4096, 0, image(65536, turn), words(1)):
+            out += framed(request)
+        for short in range(200):
+            out += b"\xC0" + bytes([1 + (turn + short) % 16]) + b"\xC0"
+        turn += 1
+    return bytes(out[:mib << 20])
+
+
+def main(args):
+    if args[:1] == ["--large"]:
+        capture = large(int(args[1]))
+        pathlib.Path(args[2]).write_bytes(capture)
+        if args[3:]:
+            pathlib.Path(args[3]).write_bytes(listing(capture)[0])
+        return 0
+    folder = pathlib.Path(args[0])
+    files = list(zip((folder / "stdin", folder / "stdout"), made()))
+    if args[1:] == ["--check"]:
+        wrong = [str(path) for path, content in files if not path.exists() or path.read_bytes() != content]
+        print("not as this script makes them: " + " ".join(wrong) if wrong else "the sample is as this script makes it")
+        return 1 if wrong else 0
+    for path, content in files:
+        path.write_bytes(content)
+    return 0
+
+
+if __name__ == "__main__":
+    sys.exit(main(sys.argv[1:]))
