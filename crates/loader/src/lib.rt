@@ -272,7 +272,8 @@ fn carry_out(
 
 // ---- the answer
 
-fn status_of(error: u8) -> u8
+// The status byte of an error byte.
+pub fn status_of(error: u8) -> u8
     ensures { λ r. ⌜ r ≡ statusOf error ⌝ }
 {
     if error == 0 {

@@ -1,6 +1,7 @@
 // The lines of the listing, and the call that lists a received byte.
 use loader::Answer;
 use loader::Loader;
+use loader::status_of;
 ghost use mathlib.Core.Path.{_≡_};
 ghost use mathlib.Core.List.{_++_};
 ghost use Prim.Native.Nat.{_+_, _≤_, _<_};
@@ -86,15 +87,6 @@ pub fn heading() -> HeadingBytes
     ensures { λ r. ⌜ r ≡ Lines·heading ⌝ }
 {
     *b"no\tcommand\tstatus\terror\n"
-}
-
-fn status_of(error: u8) -> u8
-    ensures { λ r. ⌜ r ≡ statusOf error ⌝ }
-{
-    if error == 0 {
-        return 0;
-    }
-    1
 }
 
 // What follows the number of a packet that was read.
