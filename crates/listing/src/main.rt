@@ -4,6 +4,9 @@ use libc::STDIN_FILENO;
 use libc::STDOUT_FILENO;
 use report::Listing;
 
+// With more than this used of 65,536 bytes of text, the next line might not fit.
+const NEARLY_FULL: usize = 65536 - report::LONGEST_LINE;
+
 // The next state, and whether to go on.
 struct Turn {
     listing: Listing,
@@ -20,7 +23,8 @@ fn write_out(text: &[u8]) -> bool {
     false
 }
 
-// Feeds what was read, and writes the lines of the packets that it closes. They are collected, and written where the next line might not fit.
+// Feeds what was read, and writes the lines of the packets that it closes: at the end, and before that where the text is
+// nearly full.
 fn list_run(
     listing: Listing,
     input: &[u8],
@@ -47,7 +51,7 @@ fn list_run(
         state = listed.listing;
         used = listed.used;
         i += 1;
-        if 65536 - report::LONGEST_LINE < used {
+        if NEARLY_FULL < used {
             if write_out(&text[..used]) {
                 used = 0;
             } else {

@@ -1,4 +1,4 @@
--- Numbers as text, in ASCII: "numbers of packets decimal", "hex in upper case".
+-- Numbers as text, in ASCII: "hex in upper case", and the packets' numbers, which the example has in decimal.
 use Prim.Native.Nat.{ℕ, zero, suc, _+_, _-_, _/_, _%_}
 use mathlib.Core.List.{List, [], _∷_, _++_}
 use mathlib.Core.Bool.{cond}

@@ -120,14 +120,16 @@ fn copy_at(room: &mut [u8], at: usize, text: &[u8])
 // A line of a number and the fields behind it, from `used` on, where the room has the space; how many bytes are used then.
 fn write_row(number: u64, fields: &[u8], room: &mut [u8], used: usize) -> usize
     requires { ⌜ used + (length (decimal number) + length (now fields)) ≤ length (now room) ⌝ }
-    ensures { λ r. ⌜ (r ≡ used + length (decimal number ++ now (fields .entry))) × (now (room .exit) ≡ lay (now (room .entry)) used (decimal number ++ now (fields .entry))) ⌝ }
+    ensures { λ r. ⌜ (r ≡ used + length (decimal number ++ now (fields .entry)))
+        × (now (room .exit) ≡ lay (now (room .entry)) used (decimal number ++ now (fields .entry))) ⌝ }
 {
     let at = put_decimal(number, room, used);
     copy_at(room, at, fields);
     at + fields.len()
 }
 
-// The line of a call of the loader, behind the used bytes of a room; how many are used then. Where fewer than 30 bytes are left, nothing is written.
+// The line of a call of the loader, behind the used bytes of a room; how many are used then. Where fewer than 30 bytes are
+// left, nothing is written.
 pub fn line(number: u64, answer: Answer, room: &mut [u8], used: usize) -> usize
     ensures { λ r. ⌜ Appends (lineOf number (told answer)) (now (room .entry)) used r (now (room .exit)) ⌝ }
 {
@@ -197,7 +199,10 @@ pub fn feed(
     text: &mut [u8],
     used: usize,
 ) -> Listed
-    ensures { λ r. ⌜ Lists (step (listing .loader) byte (now (packet .entry)) (now (answer .entry)) (now (flash .entry)) (now (words .entry))) (listing .number) (now (text .entry)) used r (now (packet .exit)) (now (answer .exit)) (now (flash .exit)) (now (words .exit)) (now (text .exit)) ⌝ }
+    ensures { λ r. ⌜ Lists
+        (step (listing .loader) byte (now (packet .entry)) (now (answer .entry)) (now (flash .entry)) (now (words .entry)))
+        (listing .number) (now (text .entry)) used r
+        (now (packet .exit)) (now (answer .exit)) (now (flash .exit)) (now (words .exit)) (now (text .exit)) ⌝ }
 {
     let number = listing.number;
     let fed = loader::feed(listing.loader, byte, packet, answer, flash, words);

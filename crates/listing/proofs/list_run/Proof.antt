@@ -37,9 +37,6 @@ feed-requires c κs = search needs
 add-i : tie.Need-add-i Inv-loop μ-loop
 add-i c = omega (arith, c .before .before .before .before .before .before .before .before .before .before .before .before .before .before .before .before .before .loop-test .taken, c .before .before .before .before .before .before .before .before .before .before .before .before .before .before .before .before .before .before .before .before .before .before .before .before .before .good .1 .0 .0)
 
-sub-if1 : tie.Need-sub-if1 Inv-loop μ-loop
-sub-if1 c = search needs
-
 array-share-prefix-text : tie.Need-array-share-prefix-text Inv-loop μ-loop
 array-share-prefix-text c = used-fits (c .before .before .before .before .before .before .before .before .before .before .before)
 
@@ -112,7 +109,6 @@ list-run-spec =
     slice-aggregate-feed
     feed-requires
     add-i
-    sub-if1
     array-share-prefix-text
     slice-aggregate-write-out
     write-out-requires
