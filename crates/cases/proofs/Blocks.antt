@@ -8,7 +8,7 @@ use native.Mathlib.Omega.{arith}
 use borrow.Author.Tests.{eq-eqb}
 use lib.Bits.{bitXor, xor-lt}
 use lib.ListN.{length, take, drop, getD, replicate, length-append, drop-of-length-le}
-use Rattle.rooms.specs.Bytes.{allAre}
+use Rattle.lists.specs.Bytes.{allAre}
 use Rattle.fields.specs.Words as words
 use Rattle.fields.specs.Checksum.{xored, checksum}
 use Rattle.fields.proofs.Theorems.{word-back}
@@ -90,7 +90,7 @@ begins r h =
       core = _;
       idle = idle-after (idle-fresh r) (beginPacket 5000 5 1024 8192) (omega arith) (omega arith);
       session = t .0;
-      sizes = record { enough = omega arith; tight = omega arith; room = rw h (omega arith); image = refl };
+      sizes = record { enough = omega arith; tight = omega arith; within = rw h (omega arith); image = refl };
       flash = t .1 ∙ sym (nothing-loaded 8192 (r .flash));
     }
 
@@ -107,7 +107,7 @@ next {f} {k} {img} {s} l lt d b padded =
       sizes = record {
         enough = l .sizes .enough;
         tight = l .sizes .tight;
-        room = l .sizes .room;
+        within = l .sizes .within;
         image = rw (length-append img d, l .sizes .image, b .full, next-block k 1024);
       };
       flash = t .1 ∙ rw (carried k d b, l .flash) (block-loaded load k img d f (l .sizes) lt (b .full));

@@ -2,8 +2,8 @@
 use mathlib.Core.Path.{refl, ap, _∙_}
 use mathlib.Core.Bool.{and-false}
 use native.Mathlib.Omega.{arith}
-use Rattle.rooms.specs.Bytes.{sameBytes, allAre}
-use Rattle.rooms.specs.Checks.{first}
+use Rattle.lists.specs.Bytes.{sameBytes, allAre}
+use Rattle.lists.specs.Checks.{first}
 use Rattle.fields.specs.Words as words
 use Rattle.fields.specs.Checksum.{xored, checksum}
 use Rattle.fields.specs.Merge.{mergedBits, merged}
@@ -28,7 +28,7 @@ use Rattle.cases.proofs.Linked.{polled, frame-sent, baud-read}
 
 pub starred : Starred
 unfolding
-    checksum xored frames.framed framed escaped merged mergedBits packingOf pinsGood pinsWord pinGood pinField
+    checksum xored frames.frameOf framed escaped merged mergedBits packingOf pinsGood pinsWord pinGood pinField
     handle carriedOut failed errorOf checks plainChecks first kind command shaped sized words.word words.half header
     syncRule sameBytes allAre valueAfter noteAfter beginOf flashRule counted roundUp silence stillDead
 starred = record {
@@ -47,9 +47,9 @@ starred = record {
   case-11-frame = refl;
   case-11-read = baud-read;
   case-12-frame = refl;
-  case-12-sent = λ l tick room h. frame-sent l _ tick room h;
+  case-12-sent = λ l tick buffer h. frame-sent l _ tick buffer h;
   case-14-249 = refl;
-  case-14-alive = λ l room p. polled l room _ _ p ∙ ap (withDead l) (and-false (l .dead));
+  case-14-alive = λ l buffer p. polled l buffer _ _ p ∙ ap (withDead l) (and-false (l .dead));
   case-14-250 = refl;
-  case-14-start = λ l room p. polled l room _ _ p;
+  case-14-start = λ l buffer p. polled l buffer _ _ p;
 }

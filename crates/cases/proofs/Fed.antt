@@ -1,4 +1,4 @@
--- A framed packet fed to a loader between packets: the calls before its last byte change nothing but the packet room, and the last one handles it.
+-- A framed packet fed to a loader between packets: the calls before its last byte change nothing but the packet buffer, and the last one handles it.
 use mathlib.Core.Path.{_≡_, refl, ap, _∙_}
 use mathlib.Core.List.{List, [], _∷_, _++_, append-nil}
 use mathlib.Core.Option.{Option, none, some}
@@ -8,15 +8,15 @@ use native.Mathlib.Omega.{arith}
 use borrow.Author.Tests.{leb-true, le-leb, ne-eqb}
 use lib.ListN.{length, take}
 use lib.Seq.{take-at}
-use Rattle.rooms.specs.Lay.{lay}
-use Rattle.rooms.specs.Checks.{first}
-use Rattle.rooms.proofs.Laws.{length-lay}
-use Rattle.rooms.proofs.Tests.{first-passed, first-append}
+use Rattle.lists.specs.Lay.{lay}
+use Rattle.lists.specs.Checks.{first}
+use Rattle.lists.proofs.Laws.{length-lay}
+use Rattle.lists.proofs.Tests.{first-passed, first-append}
 use Rattle.fields.specs.Pins.{attachGood}
 use Rattle.framing.specs.Frame.{END, longest, escaped, framed}
 use Rattle.framing.specs.Packets.{header}
-use Rattle.framing.specs.Line.{Step as ByteStep, line, silent, closed, stepOf}
-use Rattle.framing.specs.Run.{fresh, told, closings, stateAfter, roomAfter}
+use Rattle.framing.specs.Line.{Step as ByteStep, lineState, silent, closed, stepOf}
+use Rattle.framing.specs.Run.{fresh, closedBy, closedPackets, stateAfter, bufferAfter}
 use Rattle.framing.specs.declared.Line.{Line}
 use Rattle.framing.specs.declared.Phase.the-variants.{Inside}
 use Rattle.framing.specs.declared.Closing.the-variants.{Whole}
@@ -25,10 +25,10 @@ use Rattle.framing.proofs.Cut.{clean-escaped}
 use Rattle.framing.proofs.Invariant as invariant
 use Rattle.framing.proofs.Invariant.{Pend, inside, Fed, still, whole, broken, pend-fresh, pend-opened, pend-held}
 use Rattle.framing.proofs.Runs.{escaped-leads}
-use Rattle.loader.specs.Refusals.{Rooms, roomChecks, recordGood, refusal}
+use Rattle.loader.specs.Refusals.{BufferLengths, bufferChecks, recordGood, refusal}
 use Rattle.loader.specs.Session.{sessionGood}
 use Rattle.loader.specs.Handle.{Core, Handled, handle}
-use Rattle.loader.specs.Step.{Step, Told, taken, freshLoader, coreOf, step, closing, afterByte, roomsOf, answerRoom, toldOf}
+use Rattle.loader.specs.Step.{Step, Told, taken, freshLoader, coreOf, step, afterPacket, afterByte, bufferLengths, answerBuffer, toldOf}
 use Rattle.loader.specs.declared.Loader.{Loader}
 use Rattle.claims.specs.Calls.{Called, stepped, EachCall}
 use Rattle.claims.proofs.Lengths.{Sound, keeps}
@@ -53,50 +53,50 @@ fed-all s (p ∷ ps) = fed-append s (framed p) (framedAll ps) ∙ fed-all (fed s
 abbrev loaderOf : Line → Core → Loader
 loaderOf l c = record { line = l; session = c .session; attach = c .attach }
 
--- a loader in a line state, with its core, packet room and answer room
+-- a loader in a line state, with its core, packet buffer and answer buffer
 abbrev pub state : Told → Line → Core → List ℕ → List ℕ → Step
 state t l c packet answer =
     record { told = t; loader = loaderOf l c; packet = packet; answer = answer; flash = c .flash; words = c .words }
 
--- no refusal applies, and the packet room holds what the line state says
+-- no refusal applies, and the packet buffer holds what the line state says
 pub record Allowed (l : Line) (c : Core) (packet answer : List ℕ) (o : Option (List ℕ)) : Type 0 where
-  pub rooms : first (roomChecks (roomsOf packet answer (c .flash) (c .words))) ≡ 0
+  pub buffers : first (bufferChecks (bufferLengths packet answer (c .flash) (c .words))) ≡ 0
   pub pending : Pend packet l o
   pub sound : Sound c
 
 module _ (l : Line) (c : Core) (packet answer : List ℕ) {o : Option (List ℕ)} (a : Allowed l c packet answer o) where
-  abbrev lending : Rooms
-  lending = roomsOf packet answer (c .flash) (c .words)
+  abbrev lending : BufferLengths
+  lending = bufferLengths packet answer (c .flash) (c .words)
 
   unrefused : refusal (loaderOf l c) lending ≡ 0
-  unfolding refusal roomChecks recordGood first
+  unfolding refusal bufferChecks recordGood first
   unrefused =
-      rw (first-append (roomChecks lending), a .rooms, le-leb (l .held) longest (pend-held (a .pending)), a .sound .session, a .sound .attach)
+      rw (first-append (bufferChecks lending), a .buffers, le-leb (l .held) longest (pend-held (a .pending)), a .sound .session, a .sound .attach)
 
   one-step : (b : ℕ) (s : ByteStep) → stepOf l b packet ≡ s
       → step (loaderOf l c) b packet answer (c .flash) (c .words)
-      ≡ afterByte (s .answer .closing) (s .answer .line) (loaderOf l c) (s .room) answer (c .flash) (c .words)
+      ≡ afterByte (s .answer .closing) (s .answer .line) (loaderOf l c) (s .buffer) answer (c .flash) (c .words)
   unfolding step
   one-step b s e = rw (unrefused, e)
 
   pub for-packet : longest ≤ length packet
-  unfolding roomChecks
-  for-packet = leb-true _ _ (first-passed (roomChecks lending) refl (a .rooms) .0)
+  unfolding bufferChecks
+  for-packet = leb-true _ _ (first-passed (bufferChecks lending) refl (a .buffers) .0)
 
--- bytes that close no packet change the line state and the packet room, and nothing else
+-- bytes that close no packet change the line state and the packet buffer, and nothing else
 abbrev Quiet : List ℕ → Type 0
 Quiet bs =
-    (l : Line) (c : Core) (packet answer : List ℕ) (o : Option (List ℕ)) → Allowed l c packet answer o → closings l packet bs ≡ []
-    → fed (state taken l c packet answer) bs ≡ state taken (stateAfter l packet bs) c (roomAfter l packet bs) answer
+    (l : Line) (c : Core) (packet answer : List ℕ) (o : Option (List ℕ)) → Allowed l c packet answer o → closedPackets l packet bs ≡ []
+    → fed (state taken l c packet answer) bs ≡ state taken (stateAfter l packet bs) c (bufferAfter l packet bs) answer
 
 quiet-step : (bs : List ℕ) → Quiet bs → (b : ℕ) (l : Line) (c : Core) (packet answer : List ℕ) {o : Option (List ℕ)}
     → Allowed l c packet answer o → (s : ByteStep) → stepOf l b packet ≡ s → Fed packet o b s
-    → told (s .answer .closing) (s .room) ++ closings (s .answer .line) (s .room) bs ≡ []
+    → closedBy (s .answer .closing) (s .buffer) ++ closedPackets (s .answer .line) (s .buffer) bs ≡ []
     → fed (step (loaderOf l c) b packet answer (c .flash) (c .words)) bs
-    ≡ state taken (stateAfter (s .answer .line) (s .room) bs) c (roomAfter (s .answer .line) (s .room) bs) answer
-unfolding told afterByte
+    ≡ state taken (stateAfter (s .answer .line) (s .buffer) bs) c (bufferAfter (s .answer .line) (s .buffer) bs) answer
+unfolding closedBy afterByte
 quiet-step bs rest b l c packet answer a s q (still l′ after o′ f k p w) e =
-    let n : Allowed l′ c after answer o′ = record { rooms = rw k (a .rooms); pending = p; sound = a .sound } in
+    let n : Allowed l′ c after answer o′ = record { buffers = rw k (a .buffers); pending = p; sound = a .sound } in
     rw (one-step l c packet answer a b s q, f) (rest l′ c after answer o′ n (rw f at e))
 quiet-step bs rest b l c packet answer a s q (whole n f x y w) e =
     let g = rw f at e in let z : _≡_ {A = ℕ} 0 1 = cc in absurd (omega arith)
@@ -104,22 +104,22 @@ quiet-step bs rest b l c packet answer a s q (broken n f x y w) e =
     let g = rw f at e in let z : _≡_ {A = ℕ} 0 1 = cc in absurd (omega arith)
 
 quiet-fed : (bs : List ℕ) → Quiet bs
-unfolding fed closings stateAfter roomAfter
+unfolding fed closedPackets stateAfter bufferAfter
 quiet-fed [] l c packet answer o a e = refl
 quiet-fed (b ∷ bs) l c packet answer o a e =
     quiet-step bs (quiet-fed bs) b l c packet answer a _ refl (invariant.fed l b packet (for-packet l c packet answer a) (a .pending)) e
 
 -- a framed packet, from a line state where C0 opens one
 module _ (t : Told) (l : Line) (c : Core) (packet answer : List ℕ) {o : Option (List ℕ)} (a : Allowed l c packet answer o)
-    (opens : stepOf l END packet ≡ silent (line Inside 0) packet) (p : List ℕ) (filled : 1 ≤ length p) (fits : length p ≤ longest) where
-  allowed-open : Allowed (line Inside 0) c packet answer (some [])
-  allowed-open = record { rooms = a .rooms; pending = pend-opened packet; sound = a .sound }
+    (opens : stepOf l END packet ≡ silent (lineState Inside 0) packet) (p : List ℕ) (filled : 1 ≤ length p) (fits : length p ≤ longest) where
+  allowed-open : Allowed (lineState Inside 0) c packet answer (some [])
+  allowed-open = record { buffers = a .buffers; pending = pend-opened packet; sound = a .sound }
 
-  opened : (bs : List ℕ) → fed (state t l c packet answer) (END ∷ bs) ≡ fed (state taken (line Inside 0) c packet answer) bs
+  opened : (bs : List ℕ) → fed (state t l c packet answer) (END ∷ bs) ≡ fed (state taken (lineState Inside 0) c packet answer) bs
   unfolding fed afterByte
   opened bs = rw (one-step l c packet answer a END _ opens)
 
-  -- the room with the packet in it
+  -- the buffer with the packet in it
   abbrev full : List ℕ
   full = lay packet 0 p
 
@@ -130,48 +130,48 @@ module _ (t : Told) (l : Line) (c : Core) (packet answer : List ℕ) {o : Option
   unfolding lay
   laid = take-at p _ (length p) refl
 
-  stored : fed (state taken (line Inside 0) c packet answer) (escaped p) ≡ state taken (line Inside (length p)) c full answer
-  unfolding closings stateAfter roomAfter
+  stored : fed (state taken (lineState Inside 0) c packet answer) (escaped p) ≡ state taken (lineState Inside (length p)) c full answer
+  unfolding closedPackets stateAfter bufferAfter
   stored =
       let led = rw (append-nil, zero-add) at (escaped-leads p 0 packet [] (omega arith) (for-packet l c packet answer a)) in
-      quiet-fed (escaped p) (line Inside 0) c packet answer (some []) allowed-open (led .closes) ∙ rw (led .state, led .after)
+      quiet-fed (escaped p) (lineState Inside 0) c packet answer (some []) allowed-open (led .closes) ∙ rw (led .state, led .after)
 
-  closes : stepOf (line Inside (length p)) END full ≡ closed (Whole (length p)) full
+  closes : stepOf (lineState Inside (length p)) END full ≡ closed (Whole (length p)) full
   unfolding stepOf
   closes = rw (ne-eqb (length p) 0 (λ e. omega arith))
 
-  allowed-full : Allowed (line Inside (length p)) c full answer (some (escaped p))
+  allowed-full : Allowed (lineState Inside (length p)) c full answer (some (escaped p))
   allowed-full =
-      record { rooms = rw full-length (a .rooms); pending = inside {t = escaped p} fits (rw laid (means-escaped p)) (clean-escaped p); sound = a .sound }
+      record { buffers = rw full-length (a .buffers); pending = inside {t = escaped p} fits (rw laid (means-escaped p)) (clean-escaped p); sound = a .sound }
 
   -- the packet handled, and what its last byte comes to
   abbrev handled : Handled
   handled = handle c (header (some p))
 
   abbrev after : Step
-  after = state (toldOf (length p) (handled .reply)) (line Inside 0) (handled .core) full (answerRoom (handled .reply) answer)
+  after = state (toldOf (length p) (handled .reply)) (lineState Inside 0) (handled .core) full (answerBuffer (handled .reply) answer)
 
-  last-step : step (loaderOf (line Inside (length p)) c) END full answer (c .flash) (c .words) ≡ after
-  unfolding afterByte closing
-  last-step = rw (one-step (line Inside (length p)) c full answer allowed-full END _ closes, laid)
+  last-step : step (loaderOf (lineState Inside (length p)) c) END full answer (c .flash) (c .words) ≡ after
+  unfolding afterByte afterPacket
+  last-step = rw (one-step (lineState Inside (length p)) c full answer allowed-full END _ closes, laid)
 
   pub packet-fed : fed (state t l c packet answer) (framed p) ≡ after
   unfolding framed fed
   packet-fed = opened (escaped p ++ END ∷ []) ∙ fed-append _ (escaped p) (END ∷ []) ∙ rw stored last-step
 
-  -- in the last call every room keeps its length
-  last-call : Called (record { loader = loaderOf (line Inside (length p)) c; room = full; flash = c .flash; words = c .words }) (record { byte = END; answer = answer })
+  -- in the last call every buffer keeps its length
+  last-call : Called (record { loader = loaderOf (lineState Inside (length p)) c; buffer = full; flash = c .flash; words = c .words }) (record { byte = END; answer = answer })
   unfolding EachCall
   last-call = follows (record { byte = END; answer = answer } ∷ []) _ (some (escaped p)) (record { pending = allowed-full .pending; sound = a .sound }) .each .0
 
-  pub allowed-after : Allowed (line Inside 0) (handled .core) full (answerRoom (handled .reply) answer) (some [])
+  pub allowed-after : Allowed (lineState Inside 0) (handled .core) full (answerBuffer (handled .reply) answer) (some [])
   unfolding stepped
   allowed-after =
       let k = keeps c (header (some p)) (a .sound) in
-      let n : length (answerRoom (handled .reply) answer) ≡ length answer = rw last-step at (last-call .answer-length) in
+      let n : length (answerBuffer (handled .reply) answer) ≡ length answer = rw last-step at (last-call .answer-length) in
       let f : length (handled .core .flash) ≡ length (c .flash) = ap (λ x. x .flash) (k .lengths) in
       let w : length (handled .core .words) ≡ length (c .words) = ap (λ x. x .words) (k .lengths) in
-      record { rooms = rw (n, f, w, full-length) (a .rooms); pending = pend-opened full; sound = k .sound }
+      record { buffers = rw (n, f, w, full-length) (a .buffers); pending = pend-opened full; sound = k .sound }
 
 -- the core that a start begins with
 abbrev pub freshCore : Lending → Core
@@ -179,18 +179,18 @@ freshCore r = coreOf freshLoader (r .flash) (r .words)
 
 pub allowed-fresh : (r : Lending) → Allowed fresh (freshCore r) (r .packet) (r .answer) none
 unfolding sessionGood attachGood
-allowed-fresh r = record { rooms = r .pass; pending = pend-fresh (r .packet); sound = record { session = refl; attach = refl } }
+allowed-fresh r = record { buffers = r .pass; pending = pend-fresh (r .packet); sound = record { session = refl; attach = refl } }
 
 -- the loader stands between packets with the core c, and no refusal applies
 pub record Idle (s : Step) (c : Core) : Type 0 where
   pub told : Told
   pub at : Line
-  pub room : List ℕ
+  pub buffer : List ℕ
   pub answer : List ℕ
   pub pending : Option (List ℕ)
-  pub is : s ≡ state told at c room answer
-  pub allowed : Allowed at c room answer pending
-  pub opens : stepOf at END room ≡ silent (line Inside 0) room
+  pub is : s ≡ state told at c buffer answer
+  pub allowed : Allowed at c buffer answer pending
+  pub opens : stepOf at END buffer ≡ silent (lineState Inside 0) buffer
 
 pub idle-fresh : (r : Lending) → Idle (begun r) (freshCore r)
 unfolding begun stepOf
@@ -198,7 +198,7 @@ idle-fresh r =
     record {
       told = taken;
       at = fresh;
-      room = r .packet;
+      buffer = r .packet;
       answer = r .answer;
       pending = none;
       is = refl;
@@ -213,11 +213,11 @@ unfolding stepOf
 idle-after {s} {c} b p filled fits =
     record {
       told = _;
-      at = line Inside 0;
-      room = _;
+      at = lineState Inside 0;
+      buffer = _;
       answer = _;
       pending = some [];
-      is = ap (λ x. fed x (framed p)) (b .is) ∙ packet-fed (b .told) (b .at) c (b .room) (b .answer) (b .allowed) (b .opens) p filled fits;
-      allowed = allowed-after (b .told) (b .at) c (b .room) (b .answer) (b .allowed) (b .opens) p filled fits;
+      is = ap (λ x. fed x (framed p)) (b .is) ∙ packet-fed (b .told) (b .at) c (b .buffer) (b .answer) (b .allowed) (b .opens) p filled fits;
+      allowed = allowed-after (b .told) (b .at) c (b .buffer) (b .answer) (b .allowed) (b .opens) p filled fits;
       opens = refl;
     }

@@ -7,9 +7,9 @@ use native.Mathlib.Omega.{arith}
 use borrow.Author.Tests.{le-leb, lt-leb}
 use lib.ListN.{length}
 use lib.Seq.{take-at}
-use Rattle.rooms.specs.Lay.{lay}
-use Rattle.rooms.specs.Bytes.{allAre}
-use Rattle.rooms.specs.Checks.{first}
+use Rattle.lists.specs.Lay.{lay}
+use Rattle.lists.specs.Bytes.{allAre}
+use Rattle.lists.specs.Checks.{first}
 use Rattle.fields.specs.Checksum.{xored}
 use Rattle.fields.specs.Words as words
 use Rattle.link.specs.Clock.{elapsed, silence, stillDead}
@@ -31,31 +31,31 @@ lost-outside Baud last tick h = refl
 lost-outside Open last tick h = refl
 
 -- a poll outside Start makes the silence and dead time checks
-pub polled : (l : Link) (room : List ℕ) (last tick : ℕ) → Polled l room last
-    → pollStep l tick room .link ≡ cond (silence last tick) fresh (withDead l (stillDead (l .dead) last tick))
+pub polled : (l : Link) (buffer : List ℕ) (last tick : ℕ) → Polled l buffer last
+    → pollStep l tick buffer .link ≡ cond (silence last tick) fresh (withDead l (stillDead (l .dead) last tick))
 unfolding pollStep call done checked
-polled l room last tick p = rw (p .unrefused, lost-outside (l .phase) (l .last) tick (p .outside), p .active)
+polled l buffer last tick p = rw (p .unrefused, lost-outside (l .phase) (l .last) tick (p .outside), p .active)
 
 -- what is sent is the frame
-pub frame-sent : (l : Link) (bytes : List ℕ) (tick : ℕ) (room : List ℕ)
-    → first (sendChecks l (checked l tick) (length bytes) (length room)) ≡ 0
-    → linkSends (sendStep l bytes tick room) ≡ dataFrame bytes
+pub frame-sent : (l : Link) (bytes : List ℕ) (tick : ℕ) (buffer : List ℕ)
+    → first (sendChecks l (checked l tick) (length bytes) (length buffer)) ≡ 0
+    → linkSends (sendStep l bytes tick buffer) ≡ dataFrame bytes
 unfolding linkSends sendStep call done lay
-frame-sent l bytes tick room h = rw h (take-at (dataFrame bytes) _ _ refl)
+frame-sent l bytes tick buffer h = rw h (take-at (dataFrame bytes) _ _ refl)
 
 -- no time has passed
 now : (tick : ℕ) → tick < 2 ^ 32 → silence tick tick ≡ false
 unfolding silence
 now tick h = lt-leb 250 (elapsed tick tick) (omega arith)
 
-module _ (tick : ℕ) (h : tick < 2 ^ 32) (room : List ℕ) (k : 67 ≤ length room) where
+module _ (tick : ℕ) (h : tick < 2 ^ 32) (buffer : List ℕ) (k : 67 ≤ length buffer) where
   -- a sound link in Baud that was just active hears a byte
   abbrev Hears : Link → Type 0
   Hears l = (sound l ≡ true) × (l .last ≡ tick) × (l .phase ≡ Baud) × (l .dead ≡ false)
 
-  hears : (l : Link) (b : ℕ) → Hears l → byteStep l b tick room .link ≡ heard l b tick .link
+  hears : (l : Link) (b : ℕ) → Hears l → byteStep l b tick buffer .link ≡ heard l b tick .link
   unfolding byteStep call checks first done checked lost stillDead received listens
-  hears l b a = rw (a .0, le-leb 67 (length room) k, a .2, a .1, now tick h, a .3)
+  hears l b a = rw (a .0, le-leb 67 (length buffer) k, a .2, a .1, now tick h, a .3)
 
   -- and so for bytes one after the other
   abbrev heardAll : Link → List ℕ → Link
@@ -66,12 +66,12 @@ module _ (tick : ℕ) (h : tick < 2 ^ 32) (room : List ℕ) (k : 67 ≤ length r
   HearsAll l [] = Unit {0}
   HearsAll l (b ∷ bs) = Hears l × HearsAll (heard l b tick .link) bs
 
-  hears-all : (l : Link) (bs : List ℕ) → HearsAll l bs → receives l tick room bs ≡ heardAll l bs
+  hears-all : (l : Link) (bs : List ℕ) → HearsAll l bs → receives l tick buffer bs ≡ heardAll l bs
   unfolding receives
   hears-all l [] a = refl
   hears-all l (b ∷ bs) a = rw (hears l b (a .0)) (hears-all (heard l b tick .link) bs (a .1))
 
-  pub baud-read : receives (inBaud tick) tick room (0x03 ∷ 0x00 ∷ 0xC2 ∷ 0x01 ∷ 0x00 ∷ 0xC0 ∷ []) ≡ inOpen 115200 tick
+  pub baud-read : receives (inBaud tick) tick buffer (0x03 ∷ 0x00 ∷ 0xC2 ∷ 0x01 ∷ 0x00 ∷ 0xC0 ∷ []) ≡ inOpen 115200 tick
   unfolding
       sound holderGood allAre goodStart begins known size onList fitsPhase inBaud inOpen renewed kept heard reading allButSum lacksSum
       xored wholeFrame baudFrame words.word

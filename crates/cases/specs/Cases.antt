@@ -4,7 +4,7 @@ use mathlib.Core.List.{List, [], _∷_}
 use mathlib.Core.Bool.{true, false}
 use Prim.Native.Nat.{ℕ, _^_, _≤_, _<_}
 use lib.ListN.{length, take, drop, replicate}
-use Rattle.rooms.specs.Checks.{first}
+use Rattle.lists.specs.Checks.{first}
 use Rattle.fields.specs.Checksum.{checksum}
 use Rattle.fields.specs.Merge.{merged}
 use Rattle.fields.specs.Pins.{word, packingOf}
@@ -25,7 +25,7 @@ fiveBlocks d₀ d₁ d₂ d₃ d₄ =
     beginPacket 5000 5 1024 8192
     ∷ dataPacket 0 d₀ ∷ dataPacket 1 d₁ ∷ dataPacket 2 d₂ ∷ dataPacket 3 d₃ ∷ dataPacket 4 d₄ ∷ []
 
--- The loader's cases are said of a fresh loader with any rooms that refusals 1 to 4 let pass, whatever they hold; 12 and 14 of any link record and room that are not refused.
+-- The loader's cases are said of a fresh loader with any buffers that refusals 1 to 4 let pass, whatever they hold; 12 and 14 of any link record and buffer that are not refused.
 pub record Starred : Type 0 where
   -- 1. "Checksum of no data is EF."
   pub case-1 : checksum [] ≡ 0xEF
@@ -67,17 +67,17 @@ pub record Starred : Type 0 where
   -- 11. "115200: 03 00 C2 01 00 C0": the frame, and what a link in Baud makes of its bytes
   pub case-11-frame : baudRate 115200 ≡ 0x03 ∷ 0x00 ∷ 0xC2 ∷ 0x01 ∷ 0x00 ∷ 0xC0 ∷ []
   pub case-11-read :
-      (tick : ℕ) → tick < 2 ^ 32 → (room : List ℕ) → 67 ≤ length room
-      → receives (inBaud tick) tick room (0x03 ∷ 0x00 ∷ 0xC2 ∷ 0x01 ∷ 0x00 ∷ 0xC0 ∷ []) ≡ inOpen 115200 tick
+      (tick : ℕ) → tick < 2 ^ 32 → (buffer : List ℕ) → 67 ≤ length buffer
+      → receives (inBaud tick) tick buffer (0x03 ∷ 0x00 ∷ 0xC2 ∷ 0x01 ∷ 0x00 ∷ 0xC0 ∷ []) ≡ inOpen 115200 tick
   -- 12. "Data 48 49: 05 02 48 49 06": the frame, and what a call that is not refused sends
   pub case-12-frame : dataFrame (0x48 ∷ 0x49 ∷ []) ≡ 0x05 ∷ 0x02 ∷ 0x48 ∷ 0x49 ∷ 0x06 ∷ []
   pub case-12-sent :
-      (l : Link) (tick : ℕ) (room : List ℕ) → first (sendChecks l (checked l tick) 2 (length room)) ≡ 0
-      → linkSends (sendStep l (0x48 ∷ 0x49 ∷ []) tick room) ≡ 0x05 ∷ 0x02 ∷ 0x48 ∷ 0x49 ∷ 0x06 ∷ []
+      (l : Link) (tick : ℕ) (buffer : List ℕ) → first (sendChecks l (checked l tick) 2 (length buffer)) ≡ 0
+      → linkSends (sendStep l (0x48 ∷ 0x49 ∷ []) tick buffer) ≡ 0x05 ∷ 0x02 ∷ 0x48 ∷ 0x49 ∷ 0x06 ∷ []
   -- 14. "Silence: tick FFFFFFFF then 000000F8 hex is 249 ms, alive": all stays but dead time, which is over
   pub case-14-249 : elapsed 0xFFFFFFFF 0x000000F8 ≡ 249
   pub case-14-alive :
-      (l : Link) (room : List ℕ) → Polled l room 0xFFFFFFFF → pollStep l 0x000000F8 room .link ≡ withDead l false
+      (l : Link) (buffer : List ℕ) → Polled l buffer 0xFFFFFFFF → pollStep l 0x000000F8 buffer .link ≡ withDead l false
   -- "F9 is 250, Start": the fresh record
   pub case-14-250 : elapsed 0xFFFFFFFF 0x000000F9 ≡ 250
-  pub case-14-start : (l : Link) (room : List ℕ) → Polled l room 0xFFFFFFFF → pollStep l 0x000000F9 room .link ≡ fresh
+  pub case-14-start : (l : Link) (buffer : List ℕ) → Polled l buffer 0xFFFFFFFF → pollStep l 0x000000F9 buffer .link ≡ fresh

@@ -1,22 +1,22 @@
--- A line fed to a fresh loader: call after call, each lent the rooms as the call before left them.
+-- A line fed to a fresh loader: call after call, each lent the buffers as the call before left them.
 use mathlib.Core.Path.{_≡_}
 use mathlib.Core.List.{List, [], _∷_, _++_}
 use Prim.Native.Nat.{ℕ}
 use lib.ListN.{take}
-use Rattle.rooms.specs.Checks.{first}
+use Rattle.lists.specs.Checks.{first}
 use Rattle.framing.specs.Frame.{framed}
-use Rattle.loader.specs.Refusals.{roomChecks}
-use Rattle.loader.specs.Step.{Step, Told, refused, taken, dropped, answered, freshLoader, roomsOf, step}
+use Rattle.loader.specs.Refusals.{bufferChecks}
+use Rattle.loader.specs.Step.{Step, Told, refused, taken, dropped, answered, freshLoader, bufferLengths, step}
 
--- rooms that refusals 1 to 4 let pass
+-- buffers that refusals 1 to 4 let pass
 pub record Lending : Type 0 where
   pub packet : List ℕ
   pub answer : List ℕ
   pub flash : List ℕ
   pub words : List ℕ
-  pub pass : first (roomChecks (roomsOf packet answer flash words)) ≡ 0
+  pub pass : first (bufferChecks (bufferLengths packet answer flash words)) ≡ 0
 
--- a fresh record and its rooms, before any call
+-- a fresh record and its buffers, before any call
 unfoldable pub begun : Lending → Step
 begun r =
     record {

@@ -3,23 +3,23 @@ use mathlib.Core.Path.{_≡_}
 use mathlib.Core.List.{List, [], _∷_}
 use Prim.Native.Nat.{ℕ}
 use lib.ListN.{length, take}
-use Rattle.rooms.specs.Checks.{first}
+use Rattle.lists.specs.Checks.{first}
 use Rattle.link.specs.Answers.{Step}
 use Rattle.link.specs.Step.{checks, byteStep}
 use Rattle.link.specs.declared.Link.{Link}
 use Rattle.link.specs.declared.Phase.the-variants.{Start}
 
--- the record after bytes that are received one after the other at one tick, with a room lent anew to each call
+-- the record after bytes that are received one after the other at one tick, with a buffer lent anew to each call
 unfoldable pub receives : Link → ℕ → List ℕ → List ℕ → Link
-receives l tick room [] = l
-receives l tick room (b ∷ bs) = receives (byteStep l b tick room .link) tick room bs
+receives l tick buffer [] = l
+receives l tick buffer (b ∷ bs) = receives (byteStep l b tick buffer .link) tick buffer bs
 
 -- the bytes that a call sends
 unfoldable pub linkSends : Step → List ℕ
-linkSends s = take (s .count) (s .room)
+linkSends s = take (s .count) (s .buffer)
 
--- a link outside Start that was last active at a tick, and a room with which a poll is not refused
-pub record Polled (l : Link) (room : List ℕ) (last : ℕ) : Type 0 where
-  pub unrefused : first (checks l (length room)) ≡ 0
+-- a link outside Start that was last active at a tick, and a buffer with which a poll is not refused
+pub record Polled (l : Link) (buffer : List ℕ) (last : ℕ) : Type 0 where
+  pub unrefused : first (checks l (length buffer)) ≡ 0
   pub active : l .last ≡ last
   pub outside : l .phase ≡ Start → ⊥

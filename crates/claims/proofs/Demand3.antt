@@ -9,7 +9,7 @@ use native.Mathlib.Nat.{zero-mul}
 use borrow.Author.Tests.{leb-true}
 use lib.ListN.{length, take, getD, length-append, length-take}
 use lib.Seq.{take-nil, getD-take, length-take-le}
-use Rattle.rooms.proofs.Tests.{absurd-test, both}
+use Rattle.lists.proofs.Tests.{absurd-test, both}
 use Rattle.fields.specs.Pins.{attachGood}
 use Rattle.framing.specs.Packets.{Packet, dropped, read, classify, stretches, packets}
 use Rattle.framing.specs.Run.{Closed}
@@ -17,15 +17,15 @@ use Rattle.framing.specs.Theorems.{closedAs}
 use Rattle.framing.proofs.Cut.{todo}
 use Rattle.framing.proofs.Invariant.{pend-fresh}
 use Rattle.commands.specs.Begin.{beginOf, flashRule}
-use Rattle.commands.specs.declared.Lent.{Lent}
+use Rattle.commands.specs.declared.Lengths.{Lengths}
 use Rattle.commands.specs.declared.Begin.{Begin}
 use Rattle.loader.specs.Session.{flashOpen, sessionGood}
-use Rattle.loader.specs.Handle.{Core, lent, handle}
+use Rattle.loader.specs.Handle.{Core, lengths, handle}
 use Rattle.loader.specs.Step.{toldOf}
 use Rattle.loader.specs.declared.Session.the-variants.{Flash}
 use Rattle.claims.specs.Grammar.{flashBegin, goodBlock, begins, carries, packet, Choice, Chain, block, end, Fits}
-use Rattle.claims.specs.Calls.{Machine, Call, start, line, Closing, closings, endsWell}
-use Rattle.claims.specs.Demand3.{closing, image, Loaded, Grammatical, Holds, Demand3}
+use Rattle.claims.specs.Calls.{Machine, Call, start, lineBytes, ClosingCall, closingCalls, endsWell}
+use Rattle.claims.specs.Demand3.{closingAt, image, Loaded, Grammatical, Holds, Demand3}
 use Rattle.claims.proofs.Goodness.{flash-begin-parts, block-parts}
 use Rattle.claims.proofs.Reader.{State, idle, loading, complete, next, stateAt, next-end, fits-read, read-fits, fits-unique, View, opens, shuts, rests, takes, waits, stays, closes, view}
 use Rattle.claims.proofs.Sessions.{kept, unopened, began, memory-began, accepts, ends, ended}
@@ -35,7 +35,7 @@ use Rattle.commands.proofs.Sectors.{next-block}
 use Rattle.claims.proofs.Lengths.{Sound, Keeps, keeps}
 use Rattle.claims.proofs.Line.{packetOf, history, coreAt, Follows, follows}
 
-begin-ruled : (l : Lent) (p : Packet) → flashBegin l p ≡ true → Ruled l (begins p)
+begin-ruled : (l : Lengths) (p : Packet) → flashBegin l p ≡ true → Ruled l (begins p)
 unfolding flashBegin begins
 begin-ruled l dropped h = absurd-test h
 begin-ruled l (read p) h = ruled l (beginOf p) (flash-begin-parts l p h .is-ruled)
@@ -65,33 +65,33 @@ abbrev storedOf : List Closed → List ℕ
 storedOf ds = map (λ d. d .stored) ds
 
 -- the call that closes the packet p, of which n bytes were stored, with the core c
-abbrev closingAt : ℕ → Core → Packet → Closing
-closingAt n c p = record { told = toldOf n (handle c p .reply); flash = handle c p .core .flash }
+abbrev closingWith : ℕ → Core → Packet → ClosingCall
+closingWith n c p = record { told = toldOf n (handle c p .reply); flash = handle c p .core .flash }
 
 history-at : (c : Core) (ds : List Closed) (i : ℕ) → i < length (map packetOf ds)
-    → closing (history c ds) i ≡ closingAt (getD (storedOf ds) i 0) (coreAfter c (map packetOf ds) i) (packet (map packetOf ds) i)
-unfolding history closing packet coreAfter
+    → closingAt (history c ds) i ≡ closingWith (getD (storedOf ds) i 0) (coreAfter c (map packetOf ds) i) (packet (map packetOf ds) i)
+unfolding history closingAt packet coreAfter
 history-at c [] i h = absurd (omega arith)
 history-at c (d ∷ ds) zero h = refl
 history-at c (d ∷ ds) (suc i) h =
     history-at (handle c (packetOf d) .core) ds i (omega arith)
-    ∙ ap (λ x. closingAt (getD (storedOf ds) i 0) x (packet (map packetOf ds) i)) (sym (core-shift c (packetOf d) (map packetOf ds) i))
+    ∙ ap (λ x. closingWith (getD (storedOf ds) i 0) x (packet (map packetOf ds) i)) (sym (core-shift c (packetOf d) (map packetOf ds) i))
 
 history-length : (c : Core) (ds : List Closed) → length (history c ds) ≡ length (map packetOf ds)
 unfolding history
 history-length c [] = refl
 history-length c (d ∷ ds) = ap suc (history-length (handle c (packetOf d) .core) ds)
 
-state-take : (l : Lent) (ps : List Packet) (n j : ℕ) → j ≤ n → stateAt l (take n ps) j ≡ stateAt l ps j
+state-take : (l : Lengths) (ps : List Packet) (n j : ℕ) → j ≤ n → stateAt l (take n ps) j ≡ stateAt l ps j
 unfolding stateAt packet
 state-take l ps n zero h = refl
 state-take l ps n (suc j) h = rw (state-take l ps n j (omega arith), getD-take n ps j dropped h)
 
-state-whole : (l : Lent) (ps : List Packet) (i : ℕ) → i < length ps
+state-whole : (l : Lengths) (ps : List Packet) (i : ℕ) → i < length ps
     → stateAt l (take (suc i) ps) (length (take (suc i) ps)) ≡ stateAt l ps (suc i)
 state-whole l ps i h = rw (length-take-le (suc i) ps h) (state-take l ps (suc i) (suc i) (omega arith))
 
-chain-order : {l : Lent} {g : Begin} {ps : List Packet} {k from e : ℕ} {js : List ℕ} → Chain l g ps k from js e → from < e
+chain-order : {l : Lengths} {g : Begin} {ps : List Packet} {k from e : ℕ} {js : List ℕ} → Chain l g ps k from js e → from < e
 chain-order (block lt b good c) = omega (arith, b .order, chain-order c)
 chain-order (end n b good) = b .order
 
@@ -110,7 +110,7 @@ module _ (c₀ : Core) (sound : Sound c₀) (unopened₀ : flashOpen (c₀ .sess
       let b = keeps (coreIn i) (packet ps i) (a .sound) in
       record { lengths = b .lengths ∙ a .lengths; sound = b .sound }
 
-  flash-length : (i : ℕ) → length (coreIn i .flash) ≡ lent c₀ .flash
+  flash-length : (i : ℕ) → length (coreIn i .flash) ≡ lengths c₀ .flash
   flash-length i = ap (λ l. l .flash) (kept-up-to i .lengths)
 
   -- after i packets: the loader's flash session is the reader's load, and flash is that at the BEGIN with the blocks' data laid over it
@@ -124,18 +124,18 @@ module _ (c₀ : Core) (sound : Sound c₀) (unopened₀ : flashOpen (c₀ .sess
 
   exactly : (i : ℕ) (g : Begin) (k : ℕ) → coreIn i .session ≡ Flash g k → g .count ≤ k → k ≡ g .count
   unfolding sessionGood
-  exactly i g k e ge = omega (arith, leb-true k (g .count) (both (flashRule (lent (coreIn i)) g) _ (rw e at (kept-up-to i .sound .session)) .1))
+  exactly i g k e ge = omega (arith, leb-true k (g .count) (both (flashRule (lengths (coreIn i)) g) _ (rw e at (kept-up-to i .sound .session)) .1))
 
-  agrees-next : (i : ℕ) {s t : State} → View (lent c₀) i (packet ps i) s t → Agrees i s → Agrees (suc i) t
+  agrees-next : (i : ℕ) {s t : State} → View (lengths c₀) i (packet ps i) s t → Agrees i s → Agrees (suc i) t
   unfolding coreAfter image flashOpen
   agrees-next i (opens h) m =
       let b = began (coreIn i) (packet ps i) (rw (kept-up-to i .lengths) h) in
-      let u = begin-ruled (lent c₀) (packet ps i) h in
+      let u = begin-ruled (lengths c₀) (packet ps i) h in
       agrees-loading {g = begins (packet ps i)} {at = i} {js = []} (b .0) refl
       (record {
         enough = u .enough;
         tight = u .tight;
-        room = rw (flash-length (suc i)) (u .room);
+        within = rw (flash-length (suc i)) (u .within);
         image = sym (zero-mul (begins (packet ps i) .block));
       })
       (rw (take-nil {A = ℕ} (begins (packet ps i) .size)) (sym (nothing-loaded (begins (packet ps i) .offset) _)))
@@ -150,7 +150,7 @@ module _ (c₀ : Core) (sound : Sound c₀) (unopened₀ : flashOpen (c₀ .sess
       (record {
         enough = z .enough;
         tight = z .tight;
-        room = z .room;
+        within = z .within;
         image = rw (image-more ps js i, length-append (image ps js) (carries (packet ps i)), z .image, n, next-block k (g .block));
       })
       (t .1 ∙ rw (f, image-more ps js i) (block-loaded g k (image ps js) (carries (packet ps i)) (coreIn (suc at) .flash) z lt n))
@@ -163,17 +163,17 @@ module _ (c₀ : Core) (sound : Sound c₀) (unopened₀ : flashOpen (c₀ .sess
   agrees-next i (closes {g = g} {k = k} ge h) (agrees-loading e b z f) =
       agrees-complete (rw (ends (coreIn i) 0 g k (packet ps i) e (exactly i g k e ge) h .1))
 
-  agrees : (i : ℕ) → Agrees i (stateAt (lent c₀) ps i)
+  agrees : (i : ℕ) → Agrees i (stateAt (lengths c₀) ps i)
   unfolding stateAt coreAfter
   agrees zero = agrees-idle unopened₀
-  agrees (suc i) = agrees-next i (view (lent c₀) i (packet ps i) (stateAt (lent c₀) ps i)) (agrees i)
+  agrees (suc i) = agrees-next i (view (lengths c₀) i (packet ps i) (stateAt (lengths c₀) ps i)) (agrees i)
 
   -- where the reader comes to the choice c with the packet at i: success is answered, and flash is loaded
   record Ends (i : ℕ) (c : Choice) : Type 0 where
     said : (n : ℕ) → endsWell (toldOf n (handle (coreIn i) (packet ps i) .reply)) ≡ true
     held : Loaded (begins (packet ps (c .begin))) (image ps (c .blocks)) (coreIn (suc (c .begin)) .flash) (coreIn (suc i) .flash)
 
-  ends-at : (i : ℕ) {c : Choice} {s : State} → View (lent c₀) i (packet ps i) s (complete c) → Agrees i s → Ends i c
+  ends-at : (i : ℕ) {c : Choice} {s : State} → View (lengths c₀) i (packet ps i) s (complete c) → Agrees i s → Ends i c
   unfolding coreAfter
   ends-at i (closes {g = g} {at = at} {k = k} {js = js} ge h) (agrees-loading e b z f) =
       let n : k ≡ g .count = exactly i g k e ge in
@@ -184,36 +184,36 @@ module _ (c₀ : Core) (sound : Sound c₀) (unopened₀ : flashOpen (c₀ .sess
 
   -- a good END answered: the reader has come to a choice
   said-complete : (i n : ℕ) {s : State} → Agrees i s → endsWell (toldOf n (handle (coreIn i) (packet ps i) .reply)) ≡ true
-      → (c : Choice) × (next (lent c₀) i s (packet ps i) ≡ complete c)
+      → (c : Choice) × (next (lengths c₀) i s (packet ps i) ≡ complete c)
   unfolding flashOpen
   said-complete i n (agrees-idle o) h = let a = ended (coreIn i) n (packet ps i) h in absurd-test (sym o ∙ rw (a .session))
   said-complete i n (agrees-complete o) h = let a = ended (coreIn i) n (packet ps i) h in absurd-test (sym o ∙ rw (a .session))
   said-complete i n (agrees-loading {g = g} {at = at} {k = k} {js = js} e b z f) h =
       let a = ended (coreIn i) n (packet ps i) h in
-      (_, next-end (lent c₀) i g at k js (packet ps i) (cc (a .session, a .all, e)) (a .end))
+      (_, next-end (lengths c₀) i g at k js (packet ps i) (cc (a .session, a .all, e)) (a .end))
 
-  fits-ends : (i : ℕ) → i < length ps → (c : Choice) → Fits (lent c₀) (take (suc i) ps) c → Ends i c
+  fits-ends : (i : ℕ) → i < length ps → (c : Choice) → Fits (lengths c₀) (take (suc i) ps) c → Ends i c
   unfolding stateAt
   fits-ends i h c f =
-      let q : stateAt (lent c₀) ps (suc i) ≡ complete c = sym (state-whole (lent c₀) ps i h) ∙ fits-read (lent c₀) (take (suc i) ps) c f in
-      ends-at i (rw q at (view (lent c₀) i (packet ps i) (stateAt (lent c₀) ps i))) (agrees i)
+      let q : stateAt (lengths c₀) ps (suc i) ≡ complete c = sym (state-whole (lengths c₀) ps i h) ∙ fits-read (lengths c₀) (take (suc i) ps) c f in
+      ends-at i (rw q at (view (lengths c₀) i (packet ps i) (stateAt (lengths c₀) ps i))) (agrees i)
 
-  begin-below : (i : ℕ) (c : Choice) → Fits (lent c₀) (take (suc i) ps) c → c .begin < length ps
+  begin-below : (i : ℕ) (c : Choice) → Fits (lengths c₀) (take (suc i) ps) c → c .begin < length ps
   begin-below i c f = omega (arith, length-take (suc i) ps, f .at-last, chain-order (f .chain))
 
-  flash-at : (i : ℕ) → i < length ps → closing (history c₀ ds) i .flash ≡ coreIn (suc i) .flash
+  flash-at : (i : ℕ) → i < length ps → closingAt (history c₀ ds) i .flash ≡ coreIn (suc i) .flash
   unfolding coreAfter
   flash-at i h = rw (history-at c₀ ds i h)
 
-  grammatical : Grammatical (lent c₀) ps (history c₀ ds)
+  grammatical : Grammatical (lengths c₀) ps (history c₀ ds)
   unfolding stateAt coreAfter
   grammatical = record {
     one-for-one = history-length c₀ ds;
     ends = λ i h. rw (history-at c₀ ds i h) (
-      (λ r. let d = said-complete i _ (agrees i) r in (d .0, read-fits (lent c₀) (take (suc i) ps) (d .0) (state-whole (lent c₀) ps i h ∙ d .1))),
+      (λ r. let d = said-complete i _ (agrees i) r in (d .0, read-fits (lengths c₀) (take (suc i) ps) (d .0) (state-whole (lengths c₀) ps i h ∙ d .1))),
       (λ w. fits-ends i h (w .0) (w .1) .said _),
     );
-    unique = λ i c d f g. fits-unique (lent c₀) (take (suc i) ps) c d f g;
+    unique = λ i c d f g. fits-unique (lengths c₀) (take (suc i) ps) c d f g;
     loads = λ i c h f. rw (← (flash-at i h), ← (flash-at (c .begin) (begin-below i c f))) at (fits-ends i h c f .held);
   }
 
@@ -222,9 +222,9 @@ unfolding closedAs classify
 packets-closed [] = refl
 packets-closed (s ∷ ss) = ap (λ ps. classify s ∷ ps) (packets-closed ss)
 
-module _ (room flash words : List ℕ) where
+module _ (buffer flash words : List ℕ) where
   abbrev m₀ : Machine
-  m₀ = start room flash words
+  m₀ = start buffer flash words
 
   sound₀ : Sound (coreAt m₀)
   unfolding start sessionGood attachGood
@@ -232,22 +232,22 @@ module _ (room flash words : List ℕ) where
 
   from-start : (cs : List Call) → Follows m₀ none cs
   unfolding start
-  from-start cs = follows cs m₀ none (record { pending = pend-fresh room; sound = sound₀ })
+  from-start cs = follows cs m₀ none (record { pending = pend-fresh buffer; sound = sound₀ })
 
-  line-packets : (cs : List Call) → map packetOf (todo none (line m₀ cs)) ≡ packets (line m₀ cs)
+  line-packets : (cs : List Call) → map packetOf (todo none (lineBytes m₀ cs)) ≡ packets (lineBytes m₀ cs)
   unfolding todo packets
-  line-packets cs = packets-closed (stretches (line m₀ cs))
+  line-packets cs = packets-closed (stretches (lineBytes m₀ cs))
 
-  one-for-one : (cs : List Call) → length (closings m₀ cs) ≡ length (packets (line m₀ cs))
-  one-for-one cs = rw (from-start cs .closes, ← line-packets cs) (history-length (coreAt m₀) (todo none (line m₀ cs)))
+  one-for-one : (cs : List Call) → length (closingCalls m₀ cs) ≡ length (packets (lineBytes m₀ cs))
+  one-for-one cs = rw (from-start cs .closes, ← line-packets cs) (history-length (coreAt m₀) (todo none (lineBytes m₀ cs)))
 
-  holds : (cs : List Call) → Holds room flash words cs
+  holds : (cs : List Call) → Holds buffer flash words cs
   unfolding start flashOpen
   holds cs = record {
     each-call = from-start cs .each;
     in-time = λ n. one-for-one (take n cs);
-    grammatical = rw (from-start cs .closes, ← line-packets cs) (grammatical (coreAt m₀) sound₀ refl (todo none (line m₀ cs)));
+    grammatical = rw (from-start cs .closes, ← line-packets cs) (grammatical (coreAt m₀) sound₀ refl (todo none (lineBytes m₀ cs)));
   }
 
 pub demand3 : Demand3
-demand3 room flash words cs = holds room flash words cs
+demand3 buffer flash words cs = holds buffer flash words cs

@@ -9,9 +9,9 @@ use borrow.Author.Tests.{leb-true, leb-false}
 use lib.Dec.{leb}
 use lib.ListN.{length, take, drop, replicate, length-append, length-take, length-replicate}
 use lib.Seq.{take-at, drop-at, drop-drop, take-append-add, take-all, take-length}
-use Rattle.rooms.specs.Lay.{lay}
-use Rattle.rooms.proofs.Laws.{lay-nil}
-use Rattle.rooms.proofs.Laid.{take-lay, drop-lay, rest-lay, lay-over}
+use Rattle.lists.specs.Lay.{lay}
+use Rattle.lists.proofs.Laws.{lay-nil}
+use Rattle.lists.proofs.Laid.{take-lay, drop-lay, rest-lay, lay-over}
 use Rattle.commands.specs.Begin.{roundUp, reached}
 use Rattle.commands.specs.declared.Begin.{Begin}
 use Rattle.loader.specs.Effects.{flashBlock}
@@ -49,7 +49,7 @@ loaded-more off w f d x e h =
 pub record Sizes (g : Begin) (k : ℕ) (img f : List ℕ) : Type 0 where
   pub enough : g .size ≤ g .count * g .block
   pub tight : g .count * g .block < g .size + g .block
-  pub room : g .offset + roundUp (g .size) ≤ length f
+  pub within : g .offset + roundUp (g .size) ≤ length f
   pub image : length img ≡ k * g .block
 
 cut-same : (n : ℕ) (x : List ℕ) → take (min (length x) n) x ≡ take n x
@@ -77,8 +77,8 @@ reach a b s h = omega arith
 fits-in : (a b s : ℕ) → a < s → a + min b (s - a) ≤ s
 fits-in a b s h = omega arith
 
-in-room : (o a b n : ℕ) → a ≤ b → o + b ≤ n → o + a ≤ n
-in-room o a b n h k = omega arith
+in-within : (o a b n : ℕ) → a ≤ b → o + b ≤ n → o + a ≤ n
+in-within o a b n h k = omega arith
 
 -- one more block x
 module _ (g : Begin) (k : ℕ) (img x f : List ℕ) (z : Sizes g k img f) (lt : k < g .count) (full : length x ≡ g .block) where
@@ -112,7 +112,7 @@ module _ (g : Begin) (k : ℕ) (img x f : List ℕ) (z : Sizes g k img f) (lt : 
       let q : k * g .block + length part ≤ g .size = rw part-length (fits-in _ _ _ below-size) in
       let r : roundUp (k * g .block + length part) ≤ roundUp (g .size) = round-mono _ _ q in
       rw (m, n, cut-same (g .size - k * g .block) x, w, image-more)
-      (loaded-more (g .offset) (k * g .block) f (take (g .size) img) part l (in-room _ _ _ _ r (z .room)))
+      (loaded-more (g .offset) (k * g .block) f (take (g .size) img) part l (in-within _ _ _ _ r (z .within)))
 
 -- what stands when n bytes d are laid, and 0xFF up to the next sector
 module _ (off n : ℕ) (f d : List ℕ) (e : length d ≡ n) (h : off + roundUp n ≤ length f) where
@@ -137,8 +137,8 @@ unfolding loadedUpTo
 loaded g img f z =
     let e : length (take (g .size) img) ≡ g .size = simp length-take (omega (arith, z .enough, z .image)) in
     rw e (record {
-      announced = data-read (g .offset) (g .size) f (take (g .size) img) e (z .room);
-      erased = erased-read (g .offset) (g .size) f (take (g .size) img) e (z .room);
-      below = take-lay f (g .offset) _ (omega (arith, z .room));
-      above = above-read (g .offset) (g .size) f (take (g .size) img) e (z .room);
+      announced = data-read (g .offset) (g .size) f (take (g .size) img) e (z .within);
+      erased = erased-read (g .offset) (g .size) f (take (g .size) img) e (z .within);
+      below = take-lay f (g .offset) _ (omega (arith, z .within));
+      above = above-read (g .offset) (g .size) f (take (g .size) img) e (z .within);
     })

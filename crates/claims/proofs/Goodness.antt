@@ -6,12 +6,12 @@ use Prim.Native.Nat.{ℕ}
 use native.Mathlib.Omega.{arith}
 use borrow.Author.Tests.{eqb-true, eq-eqb, ne-eqb}
 use lib.Dec.{eqb}
-use Rattle.rooms.proofs.Tests.{absurd-test, both}
+use Rattle.lists.proofs.Tests.{absurd-test, both}
 use Rattle.fields.specs.Words.{word}
 use Rattle.framing.specs.Packets.{Packet, dropped, read}
 use Rattle.commands.specs.Header.{command, shaped, dataShaped}
 use Rattle.commands.specs.Begin.{beginOf, flashRule, memoryRule}
-use Rattle.commands.specs.declared.Lent.{Lent}
+use Rattle.commands.specs.declared.Lengths.{Lengths}
 use Rattle.commands.specs.Block.{zeroWords, sumGood, paddingGood}
 use Rattle.commands.specs.Parameters.{flashEndRule}
 use Rattle.commands.specs.declared.Begin.{Begin}
@@ -42,7 +42,7 @@ pub record GoodBlock (g : Begin) (k : ℕ) (p : List ℕ) : Type 0 where
   pub sum : sumGood p ≡ true
   pub padded : paddingGood g k p ≡ true
 
-module _ (l : Lent) (p : List ℕ) where
+module _ (l : Lengths) (p : List ℕ) where
   abbrev pub GoodFlashBegin : Type 0
   GoodFlashBegin = Good 0x02 (command p) (shaped 16 p) (flashRule l (beginOf p))
 
@@ -106,16 +106,16 @@ module _ (g : Begin) (k : ℕ) (p : List ℕ) where
 other-number : {n c : ℕ} (m : ℕ) (a : Bool) → c ≡ n → (n ≡ m → ⊥) → (eqb c m && a) ≡ false
 other-number {n} {c} m a e ne = rw (ne-eqb c m (λ q. ne (sym e ∙ q)))
 
-no-begin : (l : Lent) {n : ℕ} (p : List ℕ) → command p ≡ n → (n ≡ 0x02 → ⊥) → (n ≡ 0x05 → ⊥) → anyBegin l (read p) ≡ false
+no-begin : (l : Lengths) {n : ℕ} (p : List ℕ) → command p ≡ n → (n ≡ 0x02 → ⊥) → (n ≡ 0x05 → ⊥) → anyBegin l (read p) ≡ false
 unfolding anyBegin flashBegin memoryBegin
 no-begin l p e a b = rw (other-number 0x02 _ e a, other-number 0x05 _ e b)
 
-pub block-no-begin : (l : Lent) (g : Begin) (k : ℕ) (p : Packet) → goodBlock g k p ≡ true → anyBegin l p ≡ false
+pub block-no-begin : (l : Lengths) (g : Begin) (k : ℕ) (p : Packet) → goodBlock g k p ≡ true → anyBegin l p ≡ false
 unfolding goodBlock
 block-no-begin l g k dropped h = absurd-test h
 block-no-begin l g k (read p) h = no-begin l p (block-parts g k p h .numbered) (λ e. omega arith) (λ e. omega arith)
 
-pub end-no-begin : (l : Lent) (p : Packet) → flashEnd p ≡ true → anyBegin l p ≡ false
+pub end-no-begin : (l : Lengths) (p : Packet) → flashEnd p ≡ true → anyBegin l p ≡ false
 unfolding flashEnd
 end-no-begin l dropped h = absurd-test h
 end-no-begin l (read p) h = no-begin l p (end-parts p h .numbered) (λ e. omega arith) (λ e. omega arith)

@@ -6,20 +6,20 @@ use Prim.Native.Nat.{ℕ, _+_, _-_, _*_, _/_, _≤_, _<_, min}
 use native.Mathlib.Omega.{arith}
 use borrow.Author.Tests.{le-leb}
 use lib.ListN.{length, length-append, length-take, length-replicate, length-set}
-use Rattle.rooms.proofs.Laws.{length-lay}
-use Rattle.rooms.proofs.Tests.{absurd-test, both, Passed}
+use Rattle.lists.proofs.Laws.{length-lay}
+use Rattle.lists.proofs.Tests.{absurd-test, both, Passed}
 use Rattle.fields.specs.Pins.{attachGood}
 use Rattle.framing.specs.Packets.{Packet, dropped, read}
 use Rattle.commands.specs.Header.{command}
 use Rattle.commands.specs.Begin.{beginOf, flashRule, memoryRule, memoryStart, reached}
-use Rattle.commands.specs.declared.Lent.{Lent}
+use Rattle.commands.specs.declared.Lengths.{Lengths}
 use Rattle.commands.specs.Block.{payload}
 use Rattle.commands.specs.Parameters.{place}
 use Rattle.commands.specs.declared.Begin.{Begin}
 use Rattle.loader.specs.Session.{flashOpen, memoryOpen, announced, accepted, advanced, sessionGood}
 use Rattle.loader.specs.Errors.{Kind, kind, flash-begin, flash-data, flash-end, memory-begin, memory-end, memory-data, sync, write-reg, read-reg, spi-attach, unknown, plainChecks, checks}
 use Rattle.loader.specs.Effects.{sessionAfter, flashBlock, flashAfter, wordsBlock, wordsAfter, attachAfter}
-use Rattle.loader.specs.Handle.{Core, lent, carriedOut, failed, handle}
+use Rattle.loader.specs.Handle.{Core, lengths, carriedOut, failed, handle}
 use Rattle.loader.specs.declared.Session.{Session}
 use Rattle.loader.specs.declared.Session.the-variants.{Closed, Flash, Memory}
 use Rattle.loader.proofs.Checks.{data-passed, Passes, handle-cases}
@@ -30,38 +30,38 @@ use Rattle.loader.proofs.Memory.{length-words}
 fits : (o w v r s n x : ℕ) → w ≤ v → v ≤ r → r ≤ s → o + s ≤ n → o + w + (min (v - w) x + (r - v)) ≤ n
 fits o w v r s n x a b c d = let q : min (v - w) x ≤ v - w = omega arith in omega arith
 
-flash-block-length : (l : Lent) (g : Begin) (k : ℕ) (x f : List ℕ) → Ruled l g → length f ≡ l .flash
+flash-block-length : (l : Lengths) (g : Begin) (k : ℕ) (x f : List ℕ) → Ruled l g → length f ≡ l .flash
     → length (flashBlock g k x f) ≡ length f
 unfolding flashBlock
 flash-block-length l g k x f u e =
     let m = reaches g k in
     let r = round-mono (reached g (k + 1)) (g .size) (m .most) in
-    length-lay f _ _ (simp (length-append, length-take, length-replicate) (fits _ _ _ _ _ _ _ (m .up) (round-le _) r (rw e (u .room))))
+    length-lay f _ _ (simp (length-append, length-take, length-replicate) (fits _ _ _ _ _ _ _ (m .up) (round-le _) r (rw e (u .within))))
 
 in-words : (o w v s n : ℕ) → memoryStart ≤ o → w ≤ v → v ≤ s → o + s ≤ memoryStart + 4 * n
     → (o + w - memoryStart) / 4 + (v - w) / 4 ≤ n
 in-words o w v s n a b c d = omega arith
 
-words-block-length : (l : Lent) (g : Begin) (k : ℕ) (x ws : List ℕ) → Inside l g → length ws ≡ l .words
+words-block-length : (l : Lengths) (g : Begin) (k : ℕ) (x ws : List ℕ) → Inside l g → length ws ≡ l .words
     → length (wordsBlock g k x ws) ≡ length ws
 unfolding wordsBlock place
 words-block-length l g k x ws u e =
     let m = reaches g k in
-    length-lay ws _ _ (rw (length-words, e) (in-words (g .offset) _ _ (g .size) (l .words) (u .start) (m .up) (m .most) (u .room)))
+    length-lay ws _ _ (rw (length-words, e) (in-words (g .offset) _ _ (g .size) (l .words) (u .start) (m .up) (m .most) (u .within)))
 
 -- what refusal 5 asks of the session and the attach word
 pub record Sound (c : Core) : Type 0 where
-  pub session : sessionGood (lent c) (c .session) ≡ true
+  pub session : sessionGood (lengths c) (c .session) ≡ true
   pub attach : attachGood (c .attach) ≡ true
 
 -- what a good command keeps
-record Kept (l : Lent) (s : Session) (k : Kind) (a : ℕ) (p f ws : List ℕ) : Type 0 where
+record Kept (l : Lengths) (s : Session) (k : Kind) (a : ℕ) (p f ws : List ℕ) : Type 0 where
   flash : length (flashAfter s k p f) ≡ length f
   words : length (wordsAfter s k p ws) ≡ length ws
   session : sessionGood l (sessionAfter s k p) ≡ true
   attach : attachGood (attachAfter a k p) ≡ true
 
-module _ (l : Lent) (a : ℕ) (p f ws : List ℕ) (ef : length f ≡ l .flash) (ew : length ws ≡ l .words) (ha : attachGood a ≡ true) where
+module _ (l : Lengths) (a : ℕ) (p f ws : List ℕ) (ef : length f ≡ l .flash) (ew : length ws ≡ l .words) (ha : attachGood a ≡ true) where
   flash-data-kept : (s : Session) → sessionGood l s ≡ true → Passed (checks l s flash-data p) → Kept l s flash-data a p f ws
   unfolding flashAfter wordsAfter sessionAfter attachAfter checks flashOpen announced accepted advanced sessionGood
   flash-data-kept Closed hs t = absurd-test (data-passed false Closed p t .is-open)
@@ -108,14 +108,14 @@ module _ (l : Lent) (a : ℕ) (p f ws : List ℕ) (ef : length f ≡ l .flash) (
 
 -- from the core c to the core d: the lengths are the same, and d is sound
 pub record Keeps (c d : Core) : Type 0 where
-  pub lengths : lent d ≡ lent c
+  pub lengths : lengths d ≡ lengths c
   pub sound : Sound d
 
 carried-out : (c : Core) (p : List ℕ) → Sound c → Passes c p → Keeps c (carriedOut c p .core)
 unfolding carriedOut
 carried-out c p k t =
-    let q = kind-kept (lent c) (c .attach) p (c .flash) (c .words) refl refl (k .attach) (c .session) (kind (command p)) (k .session) t in
-    let e : lent (carriedOut c p .core) ≡ lent c = rw (q .flash, q .words) in
+    let q = kind-kept (lengths c) (c .attach) p (c .flash) (c .words) refl refl (k .attach) (c .session) (kind (command p)) (k .session) t in
+    let e : lengths (carriedOut c p .core) ≡ lengths c = rw (q .flash, q .words) in
     record { lengths = e; sound = record { session = rw e (q .session); attach = q .attach } }
 
 pub keeps : (c : Core) (p : Packet) → Sound c → Keeps c (handle c p .core)

@@ -7,24 +7,24 @@ use Prim.Native.Nat.{ℕ, _≤_}
 use native.Mathlib.Omega.{arith}
 use borrow.Author.Tests.{leb-true, eqb-true, le-leb}
 use lib.ListN.{length}
-use Rattle.rooms.specs.Checks.{_orElse_, first}
-use Rattle.rooms.proofs.Laws.{length-lay}
-use Rattle.rooms.proofs.Tests.{absurd-test, Passed, first-passed, first-append}
+use Rattle.lists.specs.Checks.{_orElse_, first}
+use Rattle.lists.proofs.Laws.{length-lay}
+use Rattle.lists.proofs.Tests.{absurd-test, Passed, first-passed, first-append}
 use Rattle.framing.specs.Frame.{longest, framed}
 use Rattle.framing.specs.Packets.{Packet, header}
-use Rattle.framing.specs.Line.{Step as ByteStep, line as lineState, silent, stepOf}
+use Rattle.framing.specs.Line.{Step as ByteStep, lineState, silent, stepOf}
 use Rattle.framing.specs.Run.{Closed}
 use Rattle.framing.specs.declared.Line.{Line}
 use Rattle.framing.specs.declared.Phase.the-variants.{Inside}
 use Rattle.framing.proofs.Escapes.{escaped-most, length-framed}
 use Rattle.framing.proofs.Cut.{todo}
 use Rattle.framing.proofs.Invariant.{Pend, Fed, still, whole, broken, pend-opened, pend-held, todo-nil, fed}
-use Rattle.loader.specs.Refusals.{Rooms, roomChecks, lentOf, recordGood, refusal}
+use Rattle.loader.specs.Refusals.{BufferLengths, bufferChecks, lengthsOf, recordGood, refusal}
 use Rattle.loader.specs.Answer.{answerBytes}
 use Rattle.loader.specs.Handle.{Core, Reply, nothing, replied, handle}
 use Rattle.loader.specs.Step as loader
-use Rattle.loader.specs.Step.{Step, refused, taken, toldOf, refusing, answerRoom, coreOf, afterByte, roomsOf}
-use Rattle.claims.specs.Calls.{Machine, Call, stepped, next, passes, line, Closing, closingOf, closings, Called, EachCall}
+use Rattle.loader.specs.Step.{Step, refused, taken, toldOf, refusing, answerBuffer, coreOf, afterByte, bufferLengths}
+use Rattle.claims.specs.Calls.{Machine, Call, stepped, next, passes, lineBytes, ClosingCall, closingCall, closingCalls, Called, EachCall}
 use Rattle.claims.proofs.Lengths.{Sound, Keeps, keeps}
 
 -- the packet that a closed stretch is
@@ -32,7 +32,7 @@ abbrev pub packetOf : Closed → Packet
 packetOf d = header (d .contents)
 
 -- what the calls that close the packets ds tell, from the core c on
-unfoldable pub history : Core → List Closed → List Closing
+unfoldable pub history : Core → List Closed → List ClosingCall
 history c [] = []
 history c (d ∷ ds) =
     record { told = toldOf (d .stored) (handle c (packetOf d) .reply); flash = handle c (packetOf d) .core .flash }
@@ -41,14 +41,14 @@ history c (d ∷ ds) =
 abbrev pub coreAt : Machine → Core
 coreAt m = coreOf (m .loader) (m .flash) (m .words)
 
--- a machine whose line state and packet room hold the open stretch o, and whose record is sound
+-- a machine whose line state and packet buffer hold the open stretch o, and whose record is sound
 pub record Ready (m : Machine) (o : Option (List ℕ)) : Type 0 where
-  pub pending : Pend (m .room) (m .loader .line) o
+  pub pending : Pend (m .buffer) (m .loader .line) o
   pub sound : Sound (coreAt m)
 
 -- what is claimed of the calls cs from the machine m on
 pub record Follows (m : Machine) (o : Option (List ℕ)) (cs : List Call) : Type 0 where
-  pub closes : closings m cs ≡ history (coreAt m) (todo o (line m cs))
+  pub closes : closingCalls m cs ≡ history (coreAt m) (todo o (lineBytes m cs))
   pub each : EachCall m cs
 
 told-never : (n : ℕ) (r : Reply) (k : ℕ) → toldOf n r ≡ refused k → ⊥
@@ -59,58 +59,58 @@ told-never n (replied a b c d) k e = let z : _≡_ {A = ℕ} 0 1 = cc in omega a
 taken-never : (k : ℕ) → taken ≡ refused k → ⊥
 taken-never k e = let z : _≡_ {A = ℕ} 0 1 = cc in omega arith
 
-closing-one : (n : ℕ) (r : Reply) (f : List ℕ) → closingOf (toldOf n r) f ≡ record { told = toldOf n r; flash = f } ∷ []
-unfolding toldOf closingOf
-closing-one n nothing f = refl
-closing-one n (replied a b c d) f = refl
+closes-packet-one : (n : ℕ) (r : Reply) (f : List ℕ) → closingCall (toldOf n r) f ≡ record { told = toldOf n r; flash = f } ∷ []
+unfolding toldOf closingCall
+closes-packet-one n nothing f = refl
+closes-packet-one n (replied a b c d) f = refl
 
--- an answer fits an answer room of 22 bytes
+-- an answer fits an answer buffer of 22 bytes
 answer-most : (c e v : ℕ) → length (framed (answerBytes c e v)) ≤ 22
 answer-most c e v = omega (arith, length-framed (answerBytes c e v), escaped-most (answerBytes c e v))
 
-answer-room-length : (r : Reply) (room : List ℕ) → 22 ≤ length room → length (answerRoom r room) ≡ length room
-unfolding answerRoom
-answer-room-length nothing room h = refl
-answer-room-length (replied c e v note) room h = length-lay room 0 (framed (answerBytes c e v)) (omega (arith, answer-most c e v))
+answer-buffer-length : (r : Reply) (buffer : List ℕ) → 22 ≤ length buffer → length (answerBuffer r buffer) ≡ length buffer
+unfolding answerBuffer
+answer-buffer-length nothing buffer h = refl
+answer-buffer-length (replied c e v note) buffer h = length-lay buffer 0 (framed (answerBytes c e v)) (omega (arith, answer-most c e v))
 
 module _ (m : Machine) (c : Call) where
-  abbrev rooms : Rooms
-  rooms = roomsOf (m .room) (c .answer) (m .flash) (m .words)
+  abbrev buffers : BufferLengths
+  buffers = bufferLengths (m .buffer) (c .answer) (m .flash) (m .words)
 
-  refusal-is : refusal (m .loader) rooms ≡ cond (passes m c) (cond (recordGood (lentOf rooms) (m .loader)) 0 5) (first (roomChecks rooms))
-  unfolding refusal passes roomChecks first
-  refusal-is = first-append (roomChecks rooms) (recordGood (lentOf rooms) (m .loader) orElse 5 ∷ []) refl
+  refusal-is : refusal (m .loader) buffers ≡ cond (passes m c) (cond (recordGood (lengthsOf buffers) (m .loader)) 0 5) (first (bufferChecks buffers))
+  unfolding refusal passes bufferChecks first
+  refusal-is = first-append (bufferChecks buffers) (recordGood (lengthsOf buffers) (m .loader) orElse 5 ∷ []) refl
 
-  -- refusals 1 to 4 let the call pass: the packet room holds the longest packet, and the answer room any answer
-  record Roomy : Type 0 where
-    packet : longest ≤ length (m .room)
+  -- refusals 1 to 4 let the call pass: the packet buffer holds the longest packet, and the answer buffer any answer
+  record LongEnough : Type 0 where
+    packet : longest ≤ length (m .buffer)
     answer : 22 ≤ length (c .answer)
 
-  roomy : passes m c ≡ true → Roomy
-  unfolding passes roomChecks
-  roomy h =
-      let t : Passed (roomChecks rooms) = first-passed (roomChecks rooms) refl (eqb-true _ 0 h) in
+  long-enough : passes m c ≡ true → LongEnough
+  unfolding passes bufferChecks
+  long-enough h =
+      let t : Passed (bufferChecks buffers) = first-passed (bufferChecks buffers) refl (eqb-true _ 0 h) in
       record { packet = leb-true _ _ (t .0); answer = leb-true _ _ (t .1 .0) }
 
   step-stops : passes m c ≡ false
-      → stepped m c ≡ refusing (first (roomChecks rooms)) (m .loader) (m .room) (c .answer) (m .flash) (m .words)
+      → stepped m c ≡ refusing (first (bufferChecks buffers)) (m .loader) (m .buffer) (c .answer) (m .flash) (m .words)
   unfolding stepped loader.step passes
   step-stops h = rw (refusal-is, h, h)
 
   -- where the record is sound, refusal 5 is not given
-  record-good : {o : Option (List ℕ)} → Ready m o → recordGood (lentOf rooms) (m .loader) ≡ true
+  record-good : {o : Option (List ℕ)} → Ready m o → recordGood (lengthsOf buffers) (m .loader) ≡ true
   unfolding recordGood
   record-good r = rw (le-leb (m .loader .line .held) longest (pend-held (r .pending)), r .sound .session) (r .sound .attach)
 
   step-passes : {o : Option (List ℕ)} → Ready m o → passes m c ≡ true → (s : ByteStep)
-      → stepOf (m .loader .line) (c .byte) (m .room) ≡ s
-      → stepped m c ≡ afterByte (s .answer .closing) (s .answer .line) (m .loader) (s .room) (c .answer) (m .flash) (m .words)
+      → stepOf (m .loader .line) (c .byte) (m .buffer) ≡ s
+      → stepped m c ≡ afterByte (s .answer .closing) (s .answer .line) (m .loader) (s .buffer) (c .answer) (m .flash) (m .words)
   unfolding stepped loader.step
   step-passes r h s e = rw (refusal-is, h, record-good r, e)
 
   -- what is claimed of the call, from what its step is
   called-as : (s : Step) → stepped m c ≡ s → (passes m c ≡ true → (n : ℕ) → s .told ≡ refused n → ⊥)
-      → length (s .packet) ≡ length (m .room)
+      → length (s .packet) ≡ length (m .buffer)
       → length (s .answer) ≡ length (c .answer) → length (s .flash) ≡ length (m .flash) → length (s .words) ≡ length (m .words)
       → Called m c
   called-as s e t p a f w =
@@ -119,13 +119,13 @@ module _ (m : Machine) (c : Call) where
 module _ (m : Machine) (c : Call) (cs : List Call) (o : Option (List ℕ)) (r : Ready m o)
     (rest : (n : Machine) (o′ : Option (List ℕ)) → Ready n o′ → Follows n o′ cs) where
   -- the byte of a refused call is none of the line's
-  line-stops : passes m c ≡ false → line m (c ∷ cs) ≡ line (next m c) cs
-  unfolding line
-  line-stops h = ap (λ t. cond t (c .byte ∷ []) [] ++ line (next m c) cs) h
+  line-stops : passes m c ≡ false → lineBytes m (c ∷ cs) ≡ lineBytes (next m c) cs
+  unfolding lineBytes
+  line-stops h = ap (λ t. cond t (c .byte ∷ []) [] ++ lineBytes (next m c) cs) h
 
   -- a refused call
   stopped : passes m c ≡ false → Follows m o (c ∷ cs)
-  unfolding closings EachCall next closingOf refusing
+  unfolding closingCalls EachCall next closingCall refusing
   stopped h =
       let e = step-stops m c h in
       let f = rest m o r in
@@ -139,22 +139,22 @@ module _ (m : Machine) (c : Call) (cs : List Call) (o : Option (List ℕ)) (r : 
   opened l after =
       record {
         loader = record { line = l; session = m .loader .session; attach = m .loader .attach };
-        room = after;
+        buffer = after;
         flash = m .flash;
         words = m .words;
       }
 
   -- a byte that closes nothing
   silently : (l : Line) (after : List ℕ) (o′ : Option (List ℕ)) → passes m c ≡ true
-      → stepOf (m .loader .line) (c .byte) (m .room) ≡ silent l after
-      → length after ≡ length (m .room) → Pend after l o′ → ((bs : List ℕ) → todo o (c .byte ∷ bs) ≡ todo o′ bs)
+      → stepOf (m .loader .line) (c .byte) (m .buffer) ≡ silent l after
+      → length after ≡ length (m .buffer) → Pend after l o′ → ((bs : List ℕ) → todo o (c .byte ∷ bs) ≡ todo o′ bs)
       → Follows m o (c ∷ cs)
-  unfolding closings line EachCall next closingOf afterByte
+  unfolding closingCalls lineBytes EachCall next closingCall afterByte
   silently l after o′ h q k p w =
       let e = step-passes m c r h (silent l after) q in
       let f = rest (opened l after) o′ (record { pending = p; sound = r .sound }) in
       record {
-        closes = rw (e, h, w (line (opened l after) cs)) (f .closes);
+        closes = rw (e, h, w (lineBytes (opened l after) cs)) (f .closes);
         each = rw e (called-as m c _ e (λ _. taken-never) k refl refl refl, f .each);
       }
 
@@ -164,39 +164,39 @@ module _ (m : Machine) (c : Call) (cs : List Call) (o : Option (List ℕ)) (r : 
       let k : Core = handle (coreAt m) (packetOf d) .core in
       record {
         loader = record { line = lineState Inside 0; session = k .session; attach = k .attach };
-        room = m .room;
+        buffer = m .buffer;
         flash = k .flash;
         words = k .words;
       }
 
   -- a byte that closes the packet d
-  closing : (d : Closed) → passes m c ≡ true
-      → stepped m c ≡ loader.closing (lineState Inside 0) (d .stored) (handle (coreAt m) (packetOf d)) (m .room) (c .answer)
+  closes-packet : (d : Closed) → passes m c ≡ true
+      → stepped m c ≡ loader.afterPacket (lineState Inside 0) (d .stored) (handle (coreAt m) (packetOf d)) (m .buffer) (c .answer)
       → ((bs : List ℕ) → todo o (c .byte ∷ bs) ≡ d ∷ todo (some []) bs) → Follows m o (c ∷ cs)
-  unfolding closings line EachCall next loader.closing history
-  closing d h e w =
+  unfolding closingCalls lineBytes EachCall next loader.afterPacket history
+  closes-packet d h e w =
       let k : Keeps (coreAt m) (handle (coreAt m) (packetOf d) .core) = keeps (coreAt m) (packetOf d) (r .sound) in
-      let f = rest (closed d) (some []) (record { pending = pend-opened (m .room); sound = k .sound }) in
+      let f = rest (closed d) (some []) (record { pending = pend-opened (m .buffer); sound = k .sound }) in
       record {
-        closes = rw (e, h, closing-one, w (line (closed d) cs), f .closes);
+        closes = rw (e, h, closes-packet-one, w (lineBytes (closed d) cs), f .closes);
         each = rw e (
-          called-as m c _ e (λ _. told-never _ _) refl (answer-room-length _ (c .answer) (roomy m c h .answer))
+          called-as m c _ e (λ _. told-never _ _) refl (answer-buffer-length _ (c .answer) (long-enough m c h .answer))
               (ap (λ l. l .flash) (k .lengths)) (ap (λ l. l .words) (k .lengths)),
           f .each,
         );
       }
 
-  fed-follows : passes m c ≡ true → Fed (m .room) o (c .byte) (stepOf (m .loader .line) (c .byte) (m .room)) → Follows m o (c ∷ cs)
+  fed-follows : passes m c ≡ true → Fed (m .buffer) o (c .byte) (stepOf (m .loader .line) (c .byte) (m .buffer)) → Follows m o (c ∷ cs)
   unfolding afterByte
   fed-follows h (still l after o′ e k p w) = silently l after o′ h e k p w
-  fed-follows h (whole n e a b w) = closing _ h (step-passes m c r h _ e) w
-  fed-follows h (broken n e a b w) = closing _ h (step-passes m c r h _ e) w
+  fed-follows h (whole n e a b w) = closes-packet _ h (step-passes m c r h _ e) w
+  fed-follows h (broken n e a b w) = closes-packet _ h (step-passes m c r h _ e) w
 
   call-follows : (t : Bool) → passes m c ≡ t → Follows m o (c ∷ cs)
-  call-follows true h = fed-follows h (fed (m .loader .line) (c .byte) (m .room) (roomy m c h .packet) (r .pending))
+  call-follows true h = fed-follows h (fed (m .loader .line) (c .byte) (m .buffer) (long-enough m c h .packet) (r .pending))
   call-follows false h = stopped h
 
 pub follows : (cs : List Call) (m : Machine) (o : Option (List ℕ)) → Ready m o → Follows m o cs
-unfolding closings line EachCall history
+unfolding closingCalls lineBytes EachCall history
 follows [] m o r = record { closes = rw (todo-nil (r .pending)); each = tt }
 follows (c ∷ cs) m o r = call-follows m c cs o r (follows cs) (passes m c) refl

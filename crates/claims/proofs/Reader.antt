@@ -8,9 +8,9 @@ use native.Mathlib.Omega.{arith}
 use borrow.Author.Tests.{ltb-true, ltb-false, lt-ltb, le-ltb}
 use lib.Dec.{ltb}
 use lib.ListN.{length}
-use Rattle.rooms.proofs.Tests.{neither, not-or, or-not}
+use Rattle.lists.proofs.Tests.{neither, not-or, or-not}
 use Rattle.framing.specs.Packets.{Packet}
-use Rattle.commands.specs.declared.Lent.{Lent}
+use Rattle.commands.specs.declared.Lengths.{Lengths}
 use Rattle.commands.specs.declared.Begin.{Begin}
 use Rattle.claims.specs.Grammar.{flashBegin, memoryBegin, goodBlock, flashEnd, begins, anyBegin, packet, fillerBlock, fillerEnd, Between, Choice, Chain, block, end, Fits}
 use Rattle.claims.proofs.Goodness.{block-no-begin, end-no-begin}
@@ -30,27 +30,27 @@ onward i (loading g at k js) p = cond (ltb k (g .count))
     (cond (flashEnd p) (complete (record { begin = at; blocks = js; last = i })) (loading g at k js))
 
 -- what follows the packet p at the place i
-unfoldable pub next : Lent → ℕ → State → Packet → State
+unfoldable pub next : Lengths → ℕ → State → Packet → State
 next l i s p = cond (flashBegin l p) (loading (begins p) i 0 []) (cond (memoryBegin l p) idle (onward i s p))
 
 -- the state after the first i packets
-unfoldable pub stateAt : Lent → List Packet → ℕ → State
+unfoldable pub stateAt : Lengths → List Packet → ℕ → State
 stateAt l ps zero = idle
 stateAt l ps (suc i) = next l i (stateAt l ps i) (packet ps i)
 
 -- no good BEGIN: the reader goes onward
-next-onward : (l : Lent) (i : ℕ) (s : State) (p : Packet) → anyBegin l p ≡ false → next l i s p ≡ onward i s p
+next-onward : (l : Lengths) (i : ℕ) (s : State) (p : Packet) → anyBegin l p ≡ false → next l i s p ≡ onward i s p
 unfolding next anyBegin
 next-onward l i s p h = let n = neither (flashBegin l p) (memoryBegin l p) h in rw (n .0, n .1)
 
 -- an END that follows all blocks
-pub next-end : (l : Lent) (i : ℕ) (g : Begin) (at k : ℕ) (js : List ℕ) (p : Packet) → k ≡ g .count → flashEnd p ≡ true
+pub next-end : (l : Lengths) (i : ℕ) (g : Begin) (at k : ℕ) (js : List ℕ) (p : Packet) → k ≡ g .count → flashEnd p ≡ true
     → next l i (loading g at k js) p ≡ complete (record { begin = at; blocks = js; last = i })
 unfolding onward
 next-end l i g at k js p e h = next-onward l i (loading g at k js) p (end-no-begin l p h) ∙ rw (le-ltb k (g .count) (omega arith), h)
 
 -- a fitting choice is what the reader ends with
-module _ (l : Lent) (ps : List Packet) where
+module _ (l : Lengths) (ps : List Packet) where
   -- a state that filler keeps lasts up to the next place
   lasts : (filler : Packet → Bool) (s : State) → ((i : ℕ) (p : Packet) → filler p ≡ true → next l i s p ≡ s)
       → (from to : ℕ) → Between filler ps from to → stateAt l ps (suc from) ≡ s → (x : ℕ) → from < x → x ≤ to → stateAt l ps x ≡ s
@@ -97,7 +97,7 @@ module _ (l : Lent) (ps : List Packet) where
       let e : suc (c .last) ≡ length ps = f .at-last in
       rw (← e) (chain-read (c .begin) [] (f .chain) (rw (f .good)))
 
-pub fits-unique : (l : Lent) (ps : List Packet) (c d : Choice) → Fits l ps c → Fits l ps d → c ≡ d
+pub fits-unique : (l : Lengths) (ps : List Packet) (c d : Choice) → Fits l ps c → Fits l ps d → c ≡ d
 fits-unique l ps c d f h =
     let a : stateAt l ps (length ps) ≡ complete c = fits-read l ps c f in
     let b : stateAt l ps (length ps) ≡ complete d = fits-read l ps d h in
@@ -110,7 +110,7 @@ Resting (loading g at k js) = ⊥
 Resting (complete c) = Unit {0}
 
 -- the ways in which the reader takes the packet p at the place i: from which state to which, and by what tests
-pub data View (l : Lent) (i : ℕ) (p : Packet) : State → State → Type 0 where
+pub data View (l : Lengths) (i : ℕ) (p : Packet) : State → State → Type 0 where
   opens : {s : State} → flashBegin l p ≡ true → View l i p s (loading (begins p) i 0 [])
   shuts : {s : State} → memoryBegin l p ≡ true → View l i p s idle
   rests : {s : State} → Resting s → flashBegin l p ≡ false → View l i p s idle
@@ -123,7 +123,7 @@ pub data View (l : Lent) (i : ℕ) (p : Packet) : State → State → Type 0 whe
   closes : {g : Begin} {at k : ℕ} {js : List ℕ} → g .count ≤ k → flashEnd p ≡ true
       → View l i p (loading g at k js) (complete (record { begin = at; blocks = js; last = i }))
 
-module _ (l : Lent) (i : ℕ) (p : Packet) where
+module _ (l : Lengths) (i : ℕ) (p : Packet) where
   view-loading : (g : Begin) (at k : ℕ) (js : List ℕ) → anyBegin l p ≡ false → (a b c : Bool) → ltb k (g .count) ≡ a
       → goodBlock g k p ≡ b → flashEnd p ≡ c
       → View l i p (loading g at k js) (cond a (cond b (loading g at (k + 1) (js ++ i ∷ [])) (loading g at k js))
@@ -151,7 +151,7 @@ module _ (l : Lent) (i : ℕ) (p : Packet) where
   view s = view-next s (flashBegin l p) (memoryBegin l p) refl refl
 
 -- what the reader ends with is a fitting choice
-module _ (l : Lent) (ps : List Packet) where
+module _ (l : Lengths) (ps : List Packet) where
   -- one more place of filler
   longer : (filler : Packet → Bool) (from i : ℕ) → Between filler ps from i → filler (packet ps i) ≡ true
       → Between filler ps from (suc i)

@@ -5,17 +5,17 @@ use mathlib.Core.Bool.{true, false}
 use Prim.Native.Nat.{ℕ, _+_, _<_}
 use borrow.Author.Tests.{eqb-true}
 use lib.Dec.{eqb}
-use Rattle.rooms.proofs.Tests.{absurd-test, both, neither, Passed}
+use Rattle.lists.proofs.Tests.{absurd-test, both, neither, Passed}
 use Rattle.framing.specs.Packets.{Packet, dropped, read}
 use Rattle.commands.specs.Header.{command, shaped}
-use Rattle.commands.specs.declared.Lent.{Lent}
+use Rattle.commands.specs.declared.Lengths.{Lengths}
 use Rattle.commands.specs.Parameters.{flashEndRule}
 use Rattle.commands.specs.declared.Begin.{Begin}
 use Rattle.loader.specs.Session.{flashOpen, memoryOpen, announced, accepted, advanced}
 use Rattle.loader.specs.Errors.{Kind, kind, flash-begin, flash-data, flash-end, memory-begin, memory-end, memory-data, sync, write-reg, read-reg, spi-attach, unknown, plainChecks, endChecks, checks}
 use Rattle.loader.specs.Effects.{sessionAfter, flashBlock, flashAfter}
 use Rattle.loader.specs.Answer.{statusOf}
-use Rattle.loader.specs.Handle.{Core, lent, carriedOut, failed, handle}
+use Rattle.loader.specs.Handle.{Core, lengths, carriedOut, failed, handle}
 use Rattle.loader.specs.Step.{answered, toldOf}
 use Rattle.loader.specs.declared.Session.{Session}
 use Rattle.loader.specs.declared.Session.the-variants.{Closed, Flash, Memory}
@@ -34,20 +34,20 @@ told-end n c e sent note h =
 
 module _ (c : Core) where
   -- a good flash BEGIN opens its session and writes no flash
-  pub began : (p : Packet) → flashBegin (lent c) p ≡ true
+  pub began : (p : Packet) → flashBegin (lengths c) p ≡ true
       → (handle c p .core .session ≡ Flash (begins p) 0) × (handle c p .core .flash ≡ c .flash)
   unfolding flashBegin begins kind checks plainChecks carriedOut sessionAfter flashAfter
   began dropped h = absurd-test h
   began (read p) h =
-      let b = flash-begin-parts (lent c) p h in
+      let b = flash-begin-parts (lengths c) p h in
       rw (good-handled c p (rw (b .numbered) (b .is-shaped, (b .is-ruled, tt)))) (rw (b .numbered) (refl, refl))
 
   -- a good memory BEGIN leaves no flash session
-  pub memory-began : (p : Packet) → memoryBegin (lent c) p ≡ true → flashOpen (handle c p .core .session) ≡ false
+  pub memory-began : (p : Packet) → memoryBegin (lengths c) p ≡ true → flashOpen (handle c p .core .session) ≡ false
   unfolding memoryBegin kind checks plainChecks carriedOut sessionAfter flashOpen
   memory-began dropped h = absurd-test h
   memory-began (read p) h =
-      let b = memory-begin-parts (lent c) p h in
+      let b = memory-begin-parts (lengths c) p h in
       rw (good-handled c p (rw (b .numbered) (b .is-shaped, (b .is-ruled, tt))), b .numbered)
 
   -- the next good block is accepted and written
@@ -93,7 +93,7 @@ module _ (c : Core) where
   unfolding kind checks endChecks flashOpen announced accepted flashEnd
   ended-session p s e m t = go s e (rw (e, m) at t)
     where
-      go : (s : Session) → c .session ≡ s → Passed (checks (lent c) s flash-end p) → Ended (read p)
+      go : (s : Session) → c .session ≡ s → Passed (checks (lengths c) s flash-end p) → Ended (read p)
       go Closed e u = absurd-test (end-passed _ _ _ Closed u .is-open)
       go (Memory g k) e u = absurd-test (end-passed _ _ _ (Memory g k) u .is-open)
       go (Flash g k) e u =
@@ -130,7 +130,7 @@ passed-block g k p e d =
       padded = d .padded;
     })
 
-kept-kind : (l : Lent) (g : Begin) (k : ℕ) (p f : List ℕ) (d : Kind) → Is (command p) d → anyBegin l (read p) ≡ false
+kept-kind : (l : Lengths) (g : Begin) (k : ℕ) (p f : List ℕ) (d : Kind) → Is (command p) d → anyBegin l (read p) ≡ false
     → (k < g .count → goodBlock g k (read p) ≡ false) → (k ≡ g .count → flashEnd (read p) ≡ false)
     → Passed (checks l (Flash g k) d p) → (sessionAfter (Flash g k) d p ≡ Flash g k) × (flashAfter (Flash g k) d p f ≡ f)
 unfolding anyBegin checks plainChecks flashOpen memoryOpen announced accepted sessionAfter flashAfter
@@ -155,13 +155,13 @@ kept-kind l g k p f spi-attach is-spi-attach nb ng ne t = (refl, refl)
 kept-kind l g k p f unknown is-unknown nb ng ne t = absurd-test (t .0)
 
 -- with a flash session open, what is neither a good BEGIN, nor its next block, nor its END changes neither session nor flash
-pub kept : (c : Core) (g : Begin) (k : ℕ) (p : Packet) → c .session ≡ Flash g k → anyBegin (lent c) p ≡ false
+pub kept : (c : Core) (g : Begin) (k : ℕ) (p : Packet) → c .session ≡ Flash g k → anyBegin (lengths c) p ≡ false
     → (k < g .count → goodBlock g k p ≡ false) → (k ≡ g .count → flashEnd p ≡ false)
     → (handle c p .core .session ≡ Flash g k) × (handle c p .core .flash ≡ c .flash)
 unfolding handle carriedOut failed
 kept c g k dropped e nb ng ne = (e, refl)
 kept c g k (read p) e nb ng ne = handle-cases c p (λ x. (x .core .session ≡ Flash g k) × (x .core .flash ≡ c .flash)) (λ _ _. (e, refl))
-    (λ t. rw e (kept-kind (lent c) g k p (c .flash) (kind (command p)) (is (command p)) nb ng ne (rw e at t)))
+    (λ t. rw e (kept-kind (lengths c) g k p (c .flash) (kind (command p)) (is (command p)) nb ng ne (rw e at t)))
 
 advanced-open : (s : Session) → flashOpen (advanced s) ≡ flashOpen s
 unfolding advanced flashOpen
@@ -169,7 +169,7 @@ advanced-open Closed = refl
 advanced-open (Flash g k) = refl
 advanced-open (Memory g k) = refl
 
-unopened-kind : (l : Lent) (s : Session) (p : List ℕ) (d : Kind) → Is (command p) d → flashOpen s ≡ false
+unopened-kind : (l : Lengths) (s : Session) (p : List ℕ) (d : Kind) → Is (command p) d → flashOpen s ≡ false
     → flashBegin l (read p) ≡ false
     → Passed (checks l s d p) → flashOpen (sessionAfter s d p) ≡ false
 unfolding checks plainChecks sessionAfter
@@ -187,9 +187,9 @@ unopened-kind l s p spi-attach is-spi-attach o nb t = o
 unopened-kind l s p unknown is-unknown o nb t = o
 
 -- with none open, only a good flash BEGIN opens one
-pub unopened : (c : Core) (p : Packet) → flashOpen (c .session) ≡ false → flashBegin (lent c) p ≡ false
+pub unopened : (c : Core) (p : Packet) → flashOpen (c .session) ≡ false → flashBegin (lengths c) p ≡ false
     → flashOpen (handle c p .core .session) ≡ false
 unfolding handle carriedOut failed
 unopened c dropped o nb = o
 unopened c (read p) o nb = handle-cases c p (λ x. flashOpen (x .core .session) ≡ false) (λ _ _. o)
-    (λ t. unopened-kind (lent c) (c .session) p (kind (command p)) (is (command p)) o nb t)
+    (λ t. unopened-kind (lengths c) (c .session) p (kind (command p)) (is (command p)) o nb t)

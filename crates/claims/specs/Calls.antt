@@ -5,70 +5,70 @@ use mathlib.Core.Bool.{Bool, true, false, cond, _&&_}
 use Prim.Native.Nat.{ℕ}
 use lib.Dec.{eqb}
 use lib.ListN.{length}
-use Rattle.commands.specs.declared.Lent.{Lent}
-use Rattle.rooms.specs.Checks.{first}
-use Rattle.loader.specs.Refusals.{roomChecks}
+use Rattle.commands.specs.declared.Lengths.{Lengths}
+use Rattle.lists.specs.Checks.{first}
+use Rattle.loader.specs.Refusals.{bufferChecks}
 use Rattle.loader.specs.Step as loader
-use Rattle.loader.specs.Step.{Step, Told, refused, taken, dropped, answered, freshLoader, roomsOf}
+use Rattle.loader.specs.Step.{Step, Told, refused, taken, dropped, answered, freshLoader, bufferLengths}
 use Rattle.loader.specs.declared.Loader.{Loader}
 
--- what a call leaves for the next: the record, packet room, flash and words
+-- what a call leaves for the next: the record, packet buffer, flash and words
 pub record Machine : Type 0 where
   pub loader : Loader
-  pub room : List ℕ
+  pub buffer : List ℕ
   pub flash : List ℕ
   pub words : List ℕ
 
--- a call: a byte and an answer room
+-- a call: a byte and an answer buffer
 pub record Call : Type 0 where
   pub byte : ℕ
   pub answer : List ℕ
 
 -- "Start with a fresh record and any flash, memory and packet room, of any length."
 unfoldable pub start : List ℕ → List ℕ → List ℕ → Machine
-start room flash words = record { loader = freshLoader; room = room; flash = flash; words = words }
+start buffer flash words = record { loader = freshLoader; buffer = buffer; flash = flash; words = words }
 
 -- the call's step is the definition that the contract of `feed` cites
 unfoldable pub stepped : Machine → Call → Step
-stepped m c = loader.step (m .loader) (c .byte) (m .room) (c .answer) (m .flash) (m .words)
+stepped m c = loader.step (m .loader) (c .byte) (m .buffer) (c .answer) (m .flash) (m .words)
 
 unfoldable pub next : Machine → Call → Machine
 next m c =
     record {
       loader = stepped m c .loader;
-      room = stepped m c .packet;
+      buffer = stepped m c .packet;
       flash = stepped m c .flash;
       words = stepped m c .words;
     }
 
 -- the lengths that the BEGIN rules speak of
-abbrev pub lent : Machine → Lent
-lent m = record { flash = length (m .flash); words = length (m .words) }
+abbrev pub lengths : Machine → Lengths
+lengths m = record { flash = length (m .flash); words = length (m .words) }
 
 -- refusals 1 to 4, as they then stand, let the call pass
 unfoldable pub passes : Machine → Call → Bool
-passes m c = eqb (first (roomChecks (roomsOf (m .room) (c .answer) (m .flash) (m .words)))) 0
+passes m c = eqb (first (bufferChecks (bufferLengths (m .buffer) (c .answer) (m .flash) (m .words)))) 0
 
 -- "The line is the bytes of the calls that refusals 1 to 4 let pass, in order"
-unfoldable pub line : Machine → List Call → List ℕ
-line m [] = []
-line m (c ∷ cs) = cond (passes m c) (c .byte ∷ []) [] ++ line (next m c) cs
+unfoldable pub lineBytes : Machine → List Call → List ℕ
+lineBytes m [] = []
+lineBytes m (c ∷ cs) = cond (passes m c) (c .byte ∷ []) [] ++ lineBytes (next m c) cs
 
 -- a call that closes a packet: what it tells, and the flash after it
-pub record Closing : Type 0 where
+pub record ClosingCall : Type 0 where
   pub told : Told
   pub flash : List ℕ
 
-unfoldable pub closingOf : Told → List ℕ → List Closing
-closingOf (refused n) flash = []
-closingOf taken flash = []
-closingOf (dropped n) flash = record { told = dropped n; flash = flash } ∷ []
-closingOf (answered n c s e sent note) flash = record { told = answered n c s e sent note; flash = flash } ∷ []
+unfoldable pub closingCall : Told → List ℕ → List ClosingCall
+closingCall (refused n) flash = []
+closingCall taken flash = []
+closingCall (dropped n) flash = record { told = dropped n; flash = flash } ∷ []
+closingCall (answered n c s e sent note) flash = record { told = answered n c s e sent note; flash = flash } ∷ []
 
 -- the calls that close a packet, in order
-unfoldable pub closings : Machine → List Call → List Closing
-closings m [] = []
-closings m (c ∷ cs) = closingOf (stepped m c .told) (stepped m c .flash) ++ closings (next m c) cs
+unfoldable pub closingCalls : Machine → List Call → List ClosingCall
+closingCalls m [] = []
+closingCalls m (c ∷ cs) = closingCall (stepped m c .told) (stepped m c .flash) ++ closingCalls (next m c) cs
 
 -- a call answers FLASH_END with success
 unfoldable pub endsWell : Told → Bool
@@ -77,10 +77,10 @@ endsWell taken = false
 endsWell (dropped n) = false
 endsWell (answered n c s e sent note) = eqb c 0x04 && (eqb s 0 && eqb e 0)
 
--- what is claimed of one call: it takes its byte where refusals 1 to 4 let it pass, and every room keeps its length
+-- what is claimed of one call: it takes its byte where refusals 1 to 4 let it pass, and every buffer keeps its length
 pub record Called (m : Machine) (c : Call) : Type 0 where
   pub takes : passes m c ≡ true → (n : ℕ) → stepped m c .told ≡ refused n → ⊥
-  pub packet-length : length (stepped m c .packet) ≡ length (m .room)
+  pub packet-length : length (stepped m c .packet) ≡ length (m .buffer)
   pub answer-length : length (stepped m c .answer) ≡ length (c .answer)
   pub flash-length : length (stepped m c .flash) ≡ length (m .flash)
   pub words-length : length (stepped m c .words) ≡ length (m .words)

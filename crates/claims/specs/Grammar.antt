@@ -12,18 +12,18 @@ use Rattle.commands.specs.Begin.{beginOf, flashRule, memoryRule}
 use Rattle.commands.specs.Block.{payload, zeroWords, sumGood, paddingGood}
 use Rattle.commands.specs.Parameters.{flashEndRule}
 use Rattle.commands.specs.declared.Begin.{Begin}
-use Rattle.commands.specs.declared.Lent.{Lent}
+use Rattle.commands.specs.declared.Lengths.{Lengths}
 
 -- "A BEGIN is good when it is read and neither 0xC0 nor 0xC5 applies."
-unfoldable pub flashBegin : Lent → Packet → Bool
+unfoldable pub flashBegin : Lengths → Packet → Bool
 flashBegin l dropped = false
 flashBegin l (read p) = eqb (command p) 0x02 && (shaped 16 p && flashRule l (beginOf p))
 
-unfoldable pub memoryBegin : Lent → Packet → Bool
+unfoldable pub memoryBegin : Lengths → Packet → Bool
 memoryBegin l dropped = false
 memoryBegin l (read p) = eqb (command p) 0x05 && (shaped 16 p && memoryRule l (beginOf p))
 
-unfoldable pub anyBegin : Lent → Packet → Bool
+unfoldable pub anyBegin : Lengths → Packet → Bool
 anyBegin l p = flashBegin l p || memoryBegin l p
 
 -- "A block k is good when it is a read FLASH_DATA past the 0xC0 check with the BEGIN's b, sequence k, third and fourth words 0, the right checksum, and 0xFF past S."
@@ -60,11 +60,11 @@ pub record Choice : Type 0 where
   pub last : ℕ
 
 -- "Filler before block k is any packet but a good BEGIN (flash or memory) and a good block k of this BEGIN"
-unfoldable pub fillerBlock : Lent → Begin → ℕ → Packet → Bool
+unfoldable pub fillerBlock : Lengths → Begin → ℕ → Packet → Bool
 fillerBlock l g k p = not (anyBegin l p || goodBlock g k p)
 
 -- "filler before END is any but a good BEGIN and" an END
-unfoldable pub fillerEnd : Lent → Packet → Bool
+unfoldable pub fillerEnd : Lengths → Packet → Bool
 fillerEnd l p = not (anyBegin l p || flashEnd p)
 
 -- the place `to` comes after the place `from`, and only filler lies between
@@ -73,7 +73,7 @@ pub record Between (filler : Packet → Bool) (ps : List Packet) (from to : ℕ)
   pub only : (x : ℕ) → from < x → x < to → filler (packet ps x) ≡ true
 
 -- after the place `from`: the good blocks k, k + 1 and so on of g at the places js, the last of them n - 1, then END at e, and only filler between
-pub data Chain (l : Lent) (g : Begin) (ps : List Packet) : ℕ → ℕ → List ℕ → ℕ → Type 0 where
+pub data Chain (l : Lengths) (g : Begin) (ps : List Packet) : ℕ → ℕ → List ℕ → ℕ → Type 0 where
   block :
       {k from j e : ℕ} {js : List ℕ} → k < g .count → Between (fillerBlock l g k) ps from j
       → goodBlock g k (packet ps j) ≡ true → Chain l g ps (k + 1) j js e → Chain l g ps k from (j ∷ js) e
@@ -82,7 +82,7 @@ pub data Chain (l : Lent) (g : Begin) (ps : List Packet) : ℕ → ℕ → List 
       → Chain l g ps k from [] e
 
 -- "in this order; it fits when END is the last packet and only filler lies between them"; "Anything may precede the BEGIN."
-pub record Fits (l : Lent) (ps : List Packet) (c : Choice) : Type 0 where
+pub record Fits (l : Lengths) (ps : List Packet) (c : Choice) : Type 0 where
   pub good : flashBegin l (packet ps (c .begin)) ≡ true
   pub chain : Chain l (begins (packet ps (c .begin))) ps 0 (c .begin) (c .blocks) (c .last)
   pub at-last : suc (c .last) ≡ length ps

@@ -5,8 +5,8 @@ use mathlib.Core.List.{List, [], _∷_}
 use mathlib.Core.Bool.{false}
 use native.Mathlib.Omega.{arith}
 use lib.ListN.{length, take, drop, length-take, length-drop}
-use Rattle.rooms.specs.Bytes.{sameBytes}
-use Rattle.rooms.proofs.Lists.{same-lengths}
+use Rattle.lists.specs.Bytes.{sameBytes}
+use Rattle.lists.proofs.Lists.{same-lengths}
 use Rattle.commands.specs.Parameters.{syncRule}
 
 lead : List ℕ

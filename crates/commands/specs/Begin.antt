@@ -5,7 +5,7 @@ use Prim.Native.Nat.{ℕ, _+_, _*_, _/_, _%_, min}
 use lib.Dec.{leb, ltb, eqb}
 use Rattle.fields.specs.Words.{word}
 use Rattle.commands.specs.declared.Begin.{Begin}
-use Rattle.commands.specs.declared.Lent.{Lent}
+use Rattle.commands.specs.declared.Lengths.{Lengths}
 
 -- "FLASH_BEGIN: size S, count n, block size b, offset": four words
 unfoldable pub beginOf : List ℕ → Begin
@@ -19,7 +19,7 @@ roundUp x = (x + 4095) / 4096 * 4096
 unfoldable pub counted : Begin → Bool
 counted g = leb (g .size) (g .count * g .block) && ltb (g .count * g .block) (g .size + g .block)
 
-unfoldable pub flashRule : Lent → Begin → Bool
+unfoldable pub flashRule : Lengths → Begin → Bool
 flashRule l g =
     leb 1 (g .block)
     && (leb (g .block) 4096
@@ -29,11 +29,11 @@ flashRule l g =
 abbrev pub memoryStart : ℕ
 memoryStart = 0x40100000
 
-abbrev pub memoryEnd : Lent → ℕ
+abbrev pub memoryEnd : Lengths → ℕ
 memoryEnd l = memoryStart + 4 * l .words
 
 -- "S, b and the address are multiples of 4, b from 4 to 4,096, the address not below the start, address plus S at most the end"
-unfoldable pub memoryRule : Lent → Begin → Bool
+unfoldable pub memoryRule : Lengths → Begin → Bool
 memoryRule l g =
     leb 4 (g .block)
     && (leb (g .block) 4096

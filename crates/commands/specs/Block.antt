@@ -4,7 +4,7 @@ use mathlib.Core.Bool.{Bool, _&&_}
 use Prim.Native.Nat.{ℕ, _-_, _*_}
 use lib.Dec.{eqb}
 use lib.ListN.{drop}
-use Rattle.rooms.specs.Bytes.{allAre}
+use Rattle.lists.specs.Bytes.{allAre}
 use Rattle.fields.specs.Words.{word}
 use Rattle.fields.specs.Checksum.{checksum}
 use Rattle.commands.specs.declared.Begin.{Begin}

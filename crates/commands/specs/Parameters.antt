@@ -4,21 +4,21 @@ use mathlib.Core.Bool.{Bool, _&&_, _||_}
 use Prim.Native.Nat.{ℕ, _-_, _/_, _%_}
 use lib.Dec.{leb, ltb, eqb}
 use lib.ListN.{take, drop}
-use Rattle.rooms.specs.Bytes.{sameBytes, allAre}
+use Rattle.lists.specs.Bytes.{sameBytes, allAre}
 use Rattle.fields.specs.Words.{word}
 use Rattle.commands.specs.Begin.{memoryStart, memoryEnd}
-use Rattle.commands.specs.declared.Lent.{Lent}
+use Rattle.commands.specs.declared.Lengths.{Lengths}
 
 -- "one word, 0 reboot or 1 stay"
 unfoldable pub flashEndRule : List ℕ → Bool
 flashEndRule p = leb (word p 8) 1
 
 -- an address of the words, aligned or not
-unfoldable pub inWords : Lent → ℕ → Bool
+unfoldable pub inWords : Lengths → ℕ → Bool
 inWords l a = leb memoryStart a && ltb a (memoryEnd l)
 
 -- "0 jumps, 1 stays, no other is good. To jump, the entry lies in the words' addresses, aligned or not; to stay, it is not looked at."
-unfoldable pub memoryEndRule : Lent → List ℕ → Bool
+unfoldable pub memoryEndRule : Lengths → List ℕ → Bool
 memoryEndRule l p = eqb (word p 8) 1 || (eqb (word p 8) 0 && inWords l (word p 12))
 
 -- "07 07 12 20 and then 32 times 55"
@@ -26,11 +26,11 @@ unfoldable pub syncRule : List ℕ → Bool
 syncRule p = sameBytes (take 4 (drop 8 p)) (0x07 ∷ 0x07 ∷ 0x12 ∷ 0x20 ∷ []) && allAre 0x55 (drop 12 p)
 
 -- "the address is a multiple of 4 inside the words"
-unfoldable pub registerRule : Lent → ℕ → Bool
+unfoldable pub registerRule : Lengths → ℕ → Bool
 registerRule l a = inWords l a && eqb (a % 4) 0
 
 -- WRITE_REG: "address, value, mask, delay ... Delay must be 0"
-unfoldable pub writeRule : Lent → List ℕ → Bool
+unfoldable pub writeRule : Lengths → List ℕ → Bool
 writeRule l p = registerRule l (word p 8) && eqb (word p 20) 0
 
 -- the place among the words of an address

@@ -16,7 +16,7 @@ pub struct Begin {
 }
 
 // The lengths lent: flash in bytes, memory in words.
-pub struct Lent {
+pub struct Lengths {
     pub flash: usize,
     pub words: usize,
 }
@@ -93,13 +93,13 @@ fn count_good(begin: Begin) -> bool
     (size <= all) & (all < size + begin.block as u64)
 }
 
-pub fn flash_good(lent: Lent, begin: Begin) -> bool
-    ensures { λ r. ⌜ r ≡ flashRule lent begin ⌝ }
+pub fn flash_good(lengths: Lengths, begin: Begin) -> bool
+    ensures { λ r. ⌜ r ≡ flashRule lengths begin ⌝ }
 {
     let block = begin.block;
     let offset = begin.offset;
     let last = offset as u64 + round_up(begin.size);
-    let placed = (offset % 4096 == 0) & (last <= lent.flash as u64);
+    let placed = (offset % 4096 == 0) & (last <= lengths.flash as u64);
     (1 <= block) & ((block <= 4096) & (count_good(begin) & placed))
 }
 
@@ -107,27 +107,27 @@ pub fn flash_good(lent: Lent, begin: Begin) -> bool
 pub const MEMORY_START: u32 = 0x40100000;
 
 // Whether an address is at most the one past the last word. Divided and not multiplied, so that no count of words wraps.
-fn up_to_end(lent: Lent, address: u64) -> bool
-    ensures { λ r. ⌜ r ≡ leb address (memoryEnd lent) ⌝ }
+fn up_to_end(lengths: Lengths, address: u64) -> bool
+    ensures { λ r. ⌜ r ≡ leb address (memoryEnd lengths) ⌝ }
 {
     if address <= 0x40100000 {
         return true;
     }
-    let words = lent.words as u64;
+    let words = lengths.words as u64;
     if (address - 0x40100000 + 3) / 4 <= words {
         return true;
     }
     false
 }
 
-pub fn memory_good(lent: Lent, begin: Begin) -> bool
-    ensures { λ r. ⌜ r ≡ memoryRule lent begin ⌝ }
+pub fn memory_good(lengths: Lengths, begin: Begin) -> bool
+    ensures { λ r. ⌜ r ≡ memoryRule lengths begin ⌝ }
 {
     let size = begin.size;
     let block = begin.block;
     let address = begin.offset;
     let last = address as u64 + size as u64;
-    let placed = (MEMORY_START <= address) & up_to_end(lent, last);
+    let placed = (MEMORY_START <= address) & up_to_end(lengths, last);
     let aligned = (size % 4 == 0) & ((block % 4 == 0) & ((address % 4 == 0) & placed));
     (4 <= block) & ((block <= 4096) & (count_good(begin) & aligned))
 }
@@ -166,7 +166,7 @@ pub fn padding_good(begin: Begin, k: u32, packet: &[u8]) -> bool
 {
     let before = k as usize * begin.block as usize;
     let left = past(begin.size as usize, before);
-    rooms::all_from(packet, 24 + left, 0xFF)
+    lists::all_from(packet, 24 + left, 0xFF)
 }
 
 // ---- parameters of the other commands
@@ -178,17 +178,17 @@ pub fn flash_end_good(packet: &[u8]) -> bool
 }
 
 // Whether an address lies in the words, aligned or not.
-fn in_words(lent: Lent, address: u32) -> bool
-    ensures { λ r. ⌜ r ≡ inWords lent address ⌝ }
+fn in_words(lengths: Lengths, address: u32) -> bool
+    ensures { λ r. ⌜ r ≡ inWords lengths address ⌝ }
 {
-    (MEMORY_START <= address) & up_to_end(lent, address as u64 + 1)
+    (MEMORY_START <= address) & up_to_end(lengths, address as u64 + 1)
 }
 
-pub fn memory_end_good(lent: Lent, packet: &[u8]) -> bool
-    ensures { λ r. ⌜ r ≡ memoryEndRule lent (now (packet .entry)) ⌝ }
+pub fn memory_end_good(lengths: Lengths, packet: &[u8]) -> bool
+    ensures { λ r. ⌜ r ≡ memoryEndRule lengths (now (packet .entry)) ⌝ }
 {
     let flag = fields::word_at(packet, 8);
-    (flag == 1) | ((flag == 0) & in_words(lent, fields::word_at(packet, 12)))
+    (flag == 1) | ((flag == 0) & in_words(lengths, fields::word_at(packet, 12)))
 }
 
 pub fn sync_good(packet: &[u8]) -> bool
@@ -198,20 +198,20 @@ pub fn sync_good(packet: &[u8]) -> bool
     if packet.len() < 12 {
         return false;
     }
-    rooms::same(&packet[8..12], lead) & rooms::all_from(packet, 12, 0x55)
+    lists::same(&packet[8..12], lead) & lists::all_from(packet, 12, 0x55)
 }
 
 // Whether an address is a multiple of 4 inside the words.
-pub fn register_good(lent: Lent, address: u32) -> bool
-    ensures { λ r. ⌜ r ≡ registerRule lent address ⌝ }
+pub fn register_good(lengths: Lengths, address: u32) -> bool
+    ensures { λ r. ⌜ r ≡ registerRule lengths address ⌝ }
 {
-    in_words(lent, address) & (address % 4 == 0)
+    in_words(lengths, address) & (address % 4 == 0)
 }
 
-pub fn write_good(lent: Lent, packet: &[u8]) -> bool
-    ensures { λ r. ⌜ r ≡ writeRule lent (now (packet .entry)) ⌝ }
+pub fn write_good(lengths: Lengths, packet: &[u8]) -> bool
+    ensures { λ r. ⌜ r ≡ writeRule lengths (now (packet .entry)) ⌝ }
 {
-    register_good(lent, fields::word_at(packet, 8)) & (fields::word_at(packet, 20) == 0)
+    register_good(lengths, fields::word_at(packet, 8)) & (fields::word_at(packet, 20) == 0)
 }
 
 // The place among the words of an address.

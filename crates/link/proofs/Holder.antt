@@ -11,9 +11,9 @@ use lib.Seq.{getD-drop, take-suc-set, drop-set-lt, length-take-le, take-all}
 use lib.Dec.{eqb, eqb·suc-zero}
 use lib.Bits.{xor-zero-l}
 use borrow.Author.Tests.{eqb-true}
-use Rattle.rooms.specs.Bytes.{allAre}
-use Rattle.rooms.specs.Lay.{lay}
-use Rattle.rooms.proofs.Laws.{lay-next, lay-whole}
+use Rattle.lists.specs.Bytes.{allAre}
+use Rattle.lists.specs.Lay.{lay}
+use Rattle.lists.proofs.Laws.{lay-next, lay-whole}
 use Rattle.fields.specs.Checksum.{xored}
 use Rattle.link.specs.Answers.{padded}
 use Rattle.link.specs.Reading.{goodStart, allButSum, begins, lacksSum}

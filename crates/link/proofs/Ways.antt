@@ -7,16 +7,16 @@ use native.Mathlib.Omega.{arith}
 use lib.ListN.{length, take, drop, getD, set, length-set, length-append}
 use lib.Dec.{eqb, leb, eqb·suc-zero}
 use borrow.Author.Tests.{eq-eqb, ne-eqb, le-leb, lt-leb, eqb-true, eqb-false, leb-true}
-use Rattle.rooms.specs.Bytes.{allAre}
-use Rattle.rooms.specs.Checks.{Check, first}
-use Rattle.rooms.specs.Lay.{lay}
-use Rattle.rooms.proofs.Laws.{set-set-lay, lay-lay, lay-more}
+use Rattle.lists.specs.Bytes.{allAre}
+use Rattle.lists.specs.Checks.{Check, first}
+use Rattle.lists.specs.Lay.{lay}
+use Rattle.lists.proofs.Laws.{set-set-lay, lay-lay, lay-more}
 use Rattle.fields.specs.Words.{word}
 use Rattle.fields.specs.Checksum.{xored}
 use Rattle.link.specs.Clock.{stillDead}
-use Rattle.link.specs.Frames.{known, size, framed, dataFrame}
+use Rattle.link.specs.Frames.{known, size, frameOf, dataFrame}
 use Rattle.link.specs.Reading.{goodStart, allButSum, begins, lacksSum, reading}
-use Rattle.link.specs.Answers.{Move, Writes, done, refusal}
+use Rattle.link.specs.Answers.{Move, Writes, done, refusing}
 use Rattle.link.specs.Link.{byPhase, store, heldOf, fresh, renewed, kept, withDead, holderGood, sound}
 use Rattle.link.specs.Step.{quiet, broken, checked, lost, pulled, baudFrame, openFrame, wholeFrame, heard, checks, sendChecks, call}
 use Rattle.link.specs.declared.Link.{Link}
@@ -127,8 +127,8 @@ module _ (l : Link) (tick : ℕ) (f : length (l .frame) ≡ 65) (good : holderGo
       heard-damaged q = rw (all-but, sum-is, ne-eqb byte _ q)
 
     module _ (e : lacksSum (l .held) (l .kind) (getD (l .frame) 0 0) ≡ false) where
-      pub room-left : l .held < 66
-      room-left = let h = held-good (l .held) (l .kind) (l .frame) good in
+      pub space-left : l .held < 66
+      space-left = let h = held-good (l .held) (l .kind) (l .frame) good in
           begun (l .held) (l .kind) (getD (l .frame) 0 0) (sym (begins-held (l .held) (l .kind) (l .frame) f (h .most) (h .zeros)) ∙ h .start) e
 
       not-all : allButSum (heldOf l) ≡ false
@@ -144,7 +144,7 @@ module _ (l : Link) (tick : ℕ) (f : length (l .frame) ≡ 65) (good : holderGo
       start-kept : goodStart (heldOf l ++ (byte ∷ [])) ≡ begins (kept l byte tick .held) (kept l byte tick .kind) (getD (kept l byte tick .frame) 0 0)
       unfolding kept
       start-kept = let h = held-good (l .held) (l .kind) (l .frame) good in
-          rw (← (held-kept l byte tick f room-left)) (begins-held (l .held + 1) (kept l byte tick .kind) (kept l byte tick .frame) length-kept (omega (arith, room-left)) (zero-kept l byte tick f room-left (h .zeros)))
+          rw (← (held-kept l byte tick f space-left)) (begins-held (l .held + 1) (kept l byte tick .kind) (kept l byte tick .frame) length-kept (omega (arith, space-left)) (zero-kept l byte tick f space-left (h .zeros)))
 
       module _ (l′ : Link) (k : l′ ≡ kept l byte tick) where
         pub heard-more : begins (l′ .held) (l′ .kind) (getD (l′ .frame) 0 0) ≡ true → heard l byte tick ≡ quiet l′
@@ -169,23 +169,23 @@ module _ (l : Link) (tick : ℕ) where
 pub set-three : (l : List ℕ) (a b c : ℕ) → 67 ≤ length l → set (set (set l 0 a) 1 b) 2 c ≡ lay l 0 (a ∷ b ∷ c ∷ [])
 set-three l a b c h = rw (set-set-lay l 0 a b (omega arith)) (lay-more l 0 (a ∷ b ∷ []) c (omega arith))
 
-pub data-written : (room bytes : List ℕ) (sum : ℕ) → length bytes ≤ 64 → 67 ≤ length room → sum ≡ xored 0 (5 ∷ length bytes ∷ bytes)
-    → Writes (dataFrame bytes) room (length bytes + 3) (set (lay (set (set room 0 5) 1 (length bytes)) 2 bytes) (length bytes + 2) sum)
-unfolding framed
-data-written room bytes sum h k e =
+pub data-written : (buffer bytes : List ℕ) (sum : ℕ) → length bytes ≤ 64 → 67 ≤ length buffer → sum ≡ xored 0 (5 ∷ length bytes ∷ bytes)
+    → Writes (dataFrame bytes) buffer (length bytes + 3) (set (lay (set (set buffer 0 5) 1 (length bytes)) 2 bytes) (length bytes + 2) sum)
+unfolding frameOf
+data-written buffer bytes sum h k e =
     let front : List ℕ = 5 ∷ length bytes ∷ [] in
-    let a : set (set room 0 5) 1 (length bytes) ≡ lay room 0 front = set-set-lay room 0 5 (length bytes) (omega arith) in
-    let b : lay (lay room 0 front) 2 bytes ≡ lay room 0 (5 ∷ length bytes ∷ bytes) = lay-lay room 0 front bytes (omega arith) in
+    let a : set (set buffer 0 5) 1 (length bytes) ≡ lay buffer 0 front = set-set-lay buffer 0 5 (length bytes) (omega arith) in
+    let b : lay (lay buffer 0 front) 2 bytes ≡ lay buffer 0 (5 ∷ length bytes ∷ bytes) = lay-lay buffer 0 front bytes (omega arith) in
     let p : length bytes + 2 ≡ 0 + length (5 ∷ length bytes ∷ bytes) = omega arith in
-    record { count = rw length-append (omega arith); room = rw (a, b, p, e) (lay-more room 0 (5 ∷ length bytes ∷ bytes) _ (omega arith)) }
+    record { count = rw length-append (omega arith); buffer = rw (a, b, p, e) (lay-more buffer 0 (5 ∷ length bytes ∷ bytes) _ (omega arith)) }
 
 -- ---- refusals
-module _ (table : List Check) (n : ℕ) (judged : n ≡ first table) (l : Link) (room : List ℕ) where
-  pub call-taken : (gone gone′ : Bool) (m m′ : Move) → n ≡ 0 → gone ≡ gone′ → m ≡ m′ → done gone m room ≡ call table l gone′ m′ room
+module _ (table : List Check) (n : ℕ) (judged : n ≡ first table) (l : Link) (buffer : List ℕ) where
+  pub call-taken : (gone gone′ : Bool) (m m′ : Move) → n ≡ 0 → gone ≡ gone′ → m ≡ m′ → done gone m buffer ≡ call table l gone′ m′ buffer
   unfolding call
   call-taken gone gone′ m m′ z p q = rw (← judged, z, p, q)
 
-  pub call-refused : (gone : Bool) (m : Move) → (n ≡ 0 → ⊥) → refusal n l room ≡ call table l gone m room
+  pub call-refused : (gone : Bool) (m : Move) → (n ≡ 0 → ⊥) → refusing n l buffer ≡ call table l gone m buffer
   unfolding call
   call-refused gone m z = rw (← judged, ne-eqb n 0 z)
 
@@ -193,24 +193,24 @@ passes : (t : Bool) (rest n : ℕ) → cond t rest (suc n) ≡ 0 → (t ≡ true
 passes true rest n e = (refl, e)
 passes false rest n e = absurd (omega arith)
 
-pub checks-passed : (l : Link) (room : ℕ) → first (checks l room) ≡ 0 → (sound l ≡ true) × (67 ≤ room)
+pub checks-passed : (l : Link) (buffer : ℕ) → first (checks l buffer) ≡ 0 → (sound l ≡ true) × (67 ≤ buffer)
 unfolding checks first
-checks-passed l room e =
+checks-passed l buffer e =
     let a = passes (sound l) _ 4 e in
-    let b = passes (leb 67 room) _ 7 (a .1) in
-    (a .0, leb-true 67 room (b .0))
+    let b = passes (leb 67 buffer) _ 7 (a .1) in
+    (a .0, leb-true 67 buffer (b .0))
 
-pub send-passed : (l l′ : Link) (count room : ℕ) → first (sendChecks l l′ count room) ≡ 0 → (count ≤ 64) × (67 ≤ room)
+pub send-passed : (l l′ : Link) (count buffer : ℕ) → first (sendChecks l l′ count buffer) ≡ 0 → (count ≤ 64) × (67 ≤ buffer)
 unfolding sendChecks first
-send-passed l l′ count room e =
+send-passed l l′ count buffer e =
     let a = passes (sound l) _ 4 e in
     let b = passes (byPhase (l′ .phase) false false true) _ 9 (a .1) in
     let c = passes (not (l′ .dead)) _ 11 (b .1) in
     let d = passes (l′ .rpc) _ 10 (c .1) in
     let f = passes (not (l′ .outstanding)) _ 12 (d .1) in
     let g = passes (leb count 64) _ 13 (f .1) in
-    let h = passes (leb 67 room) _ 7 (g .1) in
-    (leb-true count 64 (g .0), leb-true 67 room (h .0))
+    let h = passes (leb 67 buffer) _ 7 (g .1) in
+    (leb-true count 64 (g .0), leb-true 67 buffer (h .0))
 
 -- ---- the holder after the silence and dead time checks
 pub sound-holder : (l : Link) → sound l ≡ true → holderGood (l .held) (store l) ≡ true

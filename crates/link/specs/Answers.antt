@@ -5,7 +5,7 @@ use mathlib.Core.Bool.{Bool, false, cond}
 use Prim.Native.Nat.{ℕ, _-_}
 use lib.ListN.{length, replicate}
 use lib.Dec.{eqb}
-use Rattle.rooms.specs.Lay.{lay}
+use Rattle.lists.specs.Lay.{lay}
 use Rattle.link.specs.Frames.{heartbeat, status}
 use Rattle.link.specs.declared.Link.{Link}
 use Rattle.link.specs.declared.Event.{Event}
@@ -64,31 +64,31 @@ move l said out bytes = record { link = l; saying = said; sends = out; hands = b
 abbrev pub moved : Turn → Move
 moved t = move (t .link) (said (t .event)) (sent (t .reply)) (t .bytes)
 
--- bytes that are written to the front of a room: how many, and the room
+-- bytes that are written to the front of a buffer: how many, and the buffer
 pub record Writes (bytes before : List ℕ) (n : ℕ) (after : List ℕ) : Type 0 where
   pub count : n ≡ length bytes
-  pub room : after ≡ lay before 0 bytes
+  pub buffer : after ≡ lay before 0 bytes
 
--- what a call comes to: the next record, what the caller is told, and the answer room
+-- what a call comes to: the next record, what the caller is told, and the answer buffer
 pub record Step : Type 0 where
   pub link : Link
   pub saying : Saying
   pub lost : Bool
   pub count : ℕ
   pub bytes : List ℕ
-  pub room : List ℕ
+  pub buffer : List ℕ
 
--- a call came to this where it handed back the record l, told this and left the room so
+-- a call came to this where it handed back the record l, told this and left the buffer so
 abbrev pub came : Link → Told → List ℕ → Step
-came l told room =
-    record { link = l; saying = said (told .event); lost = told .lost; count = told .sent; bytes = told .bytes; room = room }
+came l told buffer =
+    record { link = l; saying = said (told .event); lost = told .lost; count = told .sent; bytes = told .bytes; buffer = buffer }
 
 -- "what is sent, framed, fills the front of answer room; the rest, or all of it without an answer, stays"
 unfoldable pub done : Bool → Move → List ℕ → Step
-done lost m room =
-    record { link = m .link; saying = m .saying; lost = lost; count = length (m .sends); bytes = m .hands; room = lay room 0 (m .sends) }
+done lost m buffer =
+    record { link = m .link; saying = m .saying; lost = lost; count = length (m .sends); bytes = m .hands; buffer = lay buffer 0 (m .sends) }
 
 -- a refused call hands the record back as it came, and writes nothing
-unfoldable pub refusal : ℕ → Link → List ℕ → Step
-refusal number l room =
-    record { link = l; saying = refused number; lost = false; count = 0; bytes = padded []; room = room }
+unfoldable pub refusing : ℕ → Link → List ℕ → Step
+refusing number l buffer =
+    record { link = l; saying = refused number; lost = false; count = 0; bytes = padded []; buffer = buffer }

@@ -26,20 +26,20 @@ unfoldable pub size : ℕ → ℕ → ℕ
 size type first = byType type 1 2 5 2 (first + 2) 0
 
 -- the frame of a type and its contents, the type in front
-unfoldable pub framed : List ℕ → List ℕ
-framed bytes = bytes ++ (xored 0 bytes ∷ [])
+unfoldable pub frameOf : List ℕ → List ℕ
+frameOf bytes = bytes ++ (xored 0 bytes ∷ [])
 
 abbrev pub heartbeat : List ℕ
-heartbeat = framed (0x01 ∷ [])
+heartbeat = frameOf (0x01 ∷ [])
 
 abbrev pub status : ℕ → List ℕ
-status code = framed (0x02 ∷ code ∷ [])
+status code = frameOf (0x02 ∷ code ∷ [])
 
 abbrev pub baudRate : ℕ → List ℕ
-baudRate rate = framed (0x03 ∷ bytesOf rate)
+baudRate rate = frameOf (0x03 ∷ bytesOf rate)
 
 abbrev pub control : ℕ → List ℕ
-control code = framed (0x04 ∷ code ∷ [])
+control code = frameOf (0x04 ∷ code ∷ [])
 
 abbrev pub dataFrame : List ℕ → List ℕ
-dataFrame bytes = framed (0x05 ∷ length bytes ∷ bytes)
+dataFrame bytes = frameOf (0x05 ∷ length bytes ∷ bytes)

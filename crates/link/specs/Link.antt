@@ -4,7 +4,7 @@ use mathlib.Core.Bool.{Bool, true, false, cond, not, _&&_, _||_}
 use Prim.Native.Nat.{ℕ, _+_, _-_}
 use lib.ListN.{take, drop, set, replicate}
 use lib.Dec.{leb, eqb}
-use Rattle.rooms.specs.Bytes.{allAre}
+use Rattle.lists.specs.Bytes.{allAre}
 use Rattle.link.specs.Reading.{goodStart}
 use Rattle.link.specs.declared.Link.{Link}
 use Rattle.link.specs.declared.Phase.{Phase}
@@ -90,7 +90,7 @@ fitsPhase phase dead rpc outstanding rate held =
     (not dead && (not rpc && (not outstanding && eqb rate 9600)))
     true
 
--- "held bytes that begin no longer good frame, nonzero bytes behind them": with the type byte there is room for 66
+-- "held bytes that begin no longer good frame, nonzero bytes behind them": with the type byte there is space for 66
 unfoldable pub holderGood : ℕ → List ℕ → Bool
 holderGood held bytes = leb held 66 && (allAre 0 (drop held bytes) && goodStart (take held bytes))
 

@@ -4,12 +4,12 @@ use mathlib.Core.Bool.{Bool, true, false, cond, not}
 use Prim.Native.Nat.{ℕ}
 use lib.ListN.{length, getD, drop}
 use lib.Dec.{leb, eqb}
-use Rattle.rooms.specs.Checks.{Check, _orElse_, first}
+use Rattle.lists.specs.Checks.{Check, _orElse_, first}
 use Rattle.fields.specs.Words.{word}
 use Rattle.link.specs.Clock.{silence, stillDead}
 use Rattle.link.specs.Frames.{byType, heartbeat, status, dataFrame}
 use Rattle.link.specs.Reading.{Reading, more, whole, wrong, reading}
-use Rattle.link.specs.Answers.{Saying, nothing, opened, handed, detected, ended, Move, move, Step, done, refusal, padded}
+use Rattle.link.specs.Answers.{Saying, nothing, opened, handed, detected, ended, Move, move, Step, done, refusing, padded}
 use Rattle.link.specs.Link.{byPhase, heldOf, fresh, inBaud, inOpen, renewed, kept, withRpc, withOutstanding, withDead, onList, sound}
 use Rattle.link.specs.declared.Link.{Link}
 use Rattle.link.specs.declared.Phase.{Phase}
@@ -99,36 +99,36 @@ received l byte tick = cond (listens (l .phase) (l .dead)) (heard l byte tick) (
 
 -- "Every link call gives 5 first .. and 8 last."
 unfoldable pub checks : Link → ℕ → List Check
-checks l room = sound l orElse 5 ∷ leb 67 room orElse 8 ∷ []
+checks l buffer = sound l orElse 5 ∷ leb 67 buffer orElse 8 ∷ []
 
 -- "Sending data: refusals in order: 10 not Open, 12 dead time, 11 RPC closed, 13 an earlier frame unconfirmed, 14 over 64 bytes, 8":
 -- 5 judges the record as it came, the others the record l′ after the silence and dead time checks
 unfoldable pub sendChecks : Link → Link → ℕ → ℕ → List Check
-sendChecks l l′ count room =
+sendChecks l l′ count buffer =
     sound l orElse 5
     ∷ byPhase (l′ .phase) false false true orElse 10
     ∷ not (l′ .dead) orElse 12
     ∷ l′ .rpc orElse 11
     ∷ not (l′ .outstanding) orElse 13
     ∷ leb count 64 orElse 14
-    ∷ leb 67 room orElse 8
+    ∷ leb 67 buffer orElse 8
     ∷ []
 
 -- a call: refused with the number of the first check that fails, else carried out
 unfoldable pub call : List Check → Link → Bool → Move → List ℕ → Step
-call table l gone m room = cond (eqb (first table) 0) (done gone m room) (refusal (first table) l room)
+call table l gone m buffer = cond (eqb (first table) 0) (done gone m buffer) (refusing (first table) l buffer)
 
 unfoldable pub pullStep : Link → ℕ → List ℕ → Step
-pullStep l tick room = call (checks l (length room)) l (lost (l .phase) (l .last) tick) (pulled (checked l tick) tick) room
+pullStep l tick buffer = call (checks l (length buffer)) l (lost (l .phase) (l .last) tick) (pulled (checked l tick) tick) buffer
 
 unfoldable pub byteStep : Link → ℕ → ℕ → List ℕ → Step
-byteStep l byte tick room = call (checks l (length room)) l (lost (l .phase) (l .last) tick) (received (checked l tick) byte tick) room
+byteStep l byte tick buffer = call (checks l (length buffer)) l (lost (l .phase) (l .last) tick) (received (checked l tick) byte tick) buffer
 
 -- "A poll makes only these two checks."
 unfoldable pub pollStep : Link → ℕ → List ℕ → Step
-pollStep l tick room = call (checks l (length room)) l (lost (l .phase) (l .last) tick) (quiet (checked l tick)) room
+pollStep l tick buffer = call (checks l (length buffer)) l (lost (l .phase) (l .last) tick) (quiet (checked l tick)) buffer
 
 unfoldable pub sendStep : Link → List ℕ → ℕ → List ℕ → Step
-sendStep l bytes tick room =
-    call (sendChecks l (checked l tick) (length bytes) (length room)) l (lost (l .phase) (l .last) tick)
-    (answers (withOutstanding (checked l tick) true) (dataFrame bytes)) room
+sendStep l bytes tick buffer =
+    call (sendChecks l (checked l tick) (length bytes) (length buffer)) l (lost (l .phase) (l .last) tick)
+    (answers (withOutstanding (checked l tick) true) (dataFrame bytes)) buffer

@@ -4,7 +4,7 @@ use crate::Payload;
 ghost use mathlib.Core.Path.{_≡_};
 ghost use mathlib.Core.List.{_∷_};
 ghost use lib.ListN.{drop};
-ghost use Rattle.rooms.specs.Bytes.{allAre};
+ghost use Rattle.lists.specs.Bytes.{allAre};
 ghost use Rattle.link.specs.Frames.{known, size};
 ghost use Rattle.link.specs.Reading.{begins, lacksSum};
 
@@ -55,9 +55,9 @@ pub fn zero_behind(held: usize, kind: u8, frame: &Holder) -> bool
     ensures { λ r. ⌜ r ≡ allAre 0 (drop held (kind ∷ now (frame .entry))) ⌝ }
 {
     if held == 0 {
-        return (kind == 0) & rooms::all_from(frame, 0, 0);
+        return (kind == 0) & lists::all_from(frame, 0, 0);
     }
-    rooms::all_from(frame, held - 1, 0)
+    lists::all_from(frame, held - 1, 0)
 }
 
 // The bytes of a data frame, behind its size.

@@ -9,7 +9,7 @@ ghost use mathlib.Core.Path.{_≡_};
 ghost use mathlib.Core.Bool.{true};
 ghost use Prim.Native.Nat.{_≤_, _<_};
 ghost use lib.ListN.{length};
-ghost use Rattle.rooms.specs.Lay.{lay};
+ghost use Rattle.lists.specs.Lay.{lay};
 ghost use Rattle.link.specs.Frames.{dataFrame};
 ghost use Rattle.link.specs.Answers.{Writes, sent, moved, came, done};
 ghost use Rattle.link.specs.Link.{store, heldOf, fresh, kept, holderGood};
@@ -53,7 +53,7 @@ pub enum Event {
 }
 
 // What a call tells: an event, whether the link was lost to silence in this call, how many bytes stand at the front of the
-// answer room to be sent, and the bytes of data that are handed over.
+// answer buffer to be sent, and the bytes of data that are handed over.
 pub struct Told {
     pub event: Event,
     pub lost: bool,
@@ -157,63 +157,63 @@ fn receive(link: Link, byte: u8, tick: u32) -> Turn
     turns::stay(link)
 }
 
-// A reply at the front of the room; how many bytes it has.
-fn write_reply(answer: Reply, room: &mut [u8]) -> usize
-    requires { ⌜ 67 ≤ length (now room) ⌝ }
-    ensures { λ r. ⌜ Writes (sent answer) (now (room .entry)) r (now (room .exit)) ⌝ }
+// A reply at the front of the buffer; how many bytes it has.
+fn write_reply(answer: Reply, buffer: &mut [u8]) -> usize
+    requires { ⌜ 67 ≤ length (now buffer) ⌝ }
+    ensures { λ r. ⌜ Writes (sent answer) (now (buffer .entry)) r (now (buffer .exit)) ⌝ }
 {
     match answer {
         Reply::Nothing => 0,
         Reply::Heartbeat => {
-            room[0] = 1;
-            room[1] = 1;
+            buffer[0] = 1;
+            buffer[1] = 1;
             2
         }
         Reply::Status(code) => {
-            room[0] = 2;
-            room[1] = code;
-            room[2] = 2 ^ code;
+            buffer[0] = 2;
+            buffer[1] = code;
+            buffer[2] = 2 ^ code;
             3
         }
     }
 }
 
 // Data behind the type and the size of its frame.
-fn write_bytes(bytes: &[u8], room: &mut [u8])
-    requires { ⌜ (length (now bytes) ≤ 64) × (67 ≤ length (now room)) ⌝ }
-    ensures { λ r. ⌜ now (room .exit) ≡ lay (now (room .entry)) 2 (now (bytes .entry)) ⌝ }
+fn write_bytes(bytes: &[u8], buffer: &mut [u8])
+    requires { ⌜ (length (now bytes) ≤ 64) × (67 ≤ length (now buffer)) ⌝ }
+    ensures { λ r. ⌜ now (buffer .exit) ≡ lay (now (buffer .entry)) 2 (now (bytes .entry)) ⌝ }
 {
     let mut i: usize = 0;
     while i < bytes.len() {
-        room[i + 2] = bytes[i];
+        buffer[i + 2] = bytes[i];
         i += 1;
     }
 }
 
-// A data frame at the front of the room; how many bytes it has.
-fn write_data(bytes: &[u8], room: &mut [u8]) -> usize
-    requires { ⌜ (length (now bytes) ≤ 64) × (67 ≤ length (now room)) ⌝ }
-    ensures { λ r. ⌜ Writes (dataFrame (now (bytes .entry))) (now (room .entry)) r (now (room .exit)) ⌝ }
+// A data frame at the front of the buffer; how many bytes it has.
+fn write_data(bytes: &[u8], buffer: &mut [u8]) -> usize
+    requires { ⌜ (length (now bytes) ≤ 64) × (67 ≤ length (now buffer)) ⌝ }
+    ensures { λ r. ⌜ Writes (dataFrame (now (bytes .entry))) (now (buffer .entry)) r (now (buffer .exit)) ⌝ }
 {
     let n = bytes.len();
     let size = n as u8;
-    room[0] = 5;
-    room[1] = size;
-    write_bytes(bytes, room);
-    room[n + 2] = fields::xor_from(5 ^ size, bytes, 0);
+    buffer[0] = 5;
+    buffer[1] = size;
+    write_bytes(bytes, buffer);
+    buffer[n + 2] = fields::xor_from(5 ^ size, bytes, 0);
     n + 3
 }
 
 // A turn carried out: its reply is written, and the caller is told.
-fn answer(turn: Turn, gone: bool, room: &mut [u8]) -> Next
-    requires { ⌜ 67 ≤ length (now room) ⌝ }
-    ensures { λ r. ⌜ came (r .link) (r .told) (now (room .exit)) ≡ done gone (moved turn) (now (room .entry)) ⌝ }
+fn answer(turn: Turn, gone: bool, buffer: &mut [u8]) -> Next
+    requires { ⌜ 67 ≤ length (now buffer) ⌝ }
+    ensures { λ r. ⌜ came (r .link) (r .told) (now (buffer .exit)) ≡ done gone (moved turn) (now (buffer .entry)) ⌝ }
 {
     let link = turn.link;
     let event = turn.event;
     let reply = turn.reply;
     let bytes = turn.bytes;
-    let sent = write_reply(reply, room);
+    let sent = write_reply(reply, buffer);
     Next {
         link,
         told: Told {
@@ -228,64 +228,64 @@ fn answer(turn: Turn, gone: bool, room: &mut [u8]) -> Next
 // The calls
 
 // The line was pulled.
-pub fn pull(link: Link, tick: u32, room: &mut [u8]) -> Next
-    ensures { λ r. ⌜ came (r .link) (r .told) (now (room .exit)) ≡ pullStep link tick (now (room .entry)) ⌝ }
+pub fn pull(link: Link, tick: u32, buffer: &mut [u8]) -> Next
+    ensures { λ r. ⌜ came (r .link) (r .told) (now (buffer .exit)) ≡ pullStep link tick (now (buffer .entry)) ⌝ }
 {
-    let number = refusals::judge(link, room.len());
+    let number = refusals::judge(link, buffer.len());
     if number == 0 {
         let phase = link.phase;
         let gone = state::is_lost(phase, link.last, tick);
         return answer(
             turns::pull_line(state::after_checks(link, tick), tick),
             gone,
-            room,
+            buffer,
         );
     }
     refusals::refuse(link, number)
 }
 
 // A byte was received.
-pub fn byte(link: Link, byte: u8, tick: u32, room: &mut [u8]) -> Next
-    ensures { λ r. ⌜ came (r .link) (r .told) (now (room .exit)) ≡ byteStep link byte tick (now (room .entry)) ⌝ }
+pub fn byte(link: Link, byte: u8, tick: u32, buffer: &mut [u8]) -> Next
+    ensures { λ r. ⌜ came (r .link) (r .told) (now (buffer .exit)) ≡ byteStep link byte tick (now (buffer .entry)) ⌝ }
 {
-    let number = refusals::judge(link, room.len());
+    let number = refusals::judge(link, buffer.len());
     if number == 0 {
         let phase = link.phase;
         let gone = state::is_lost(phase, link.last, tick);
         return answer(
             receive(state::after_checks(link, tick), byte, tick),
             gone,
-            room,
+            buffer,
         );
     }
     refusals::refuse(link, number)
 }
 
 // Time has passed.
-pub fn poll(link: Link, tick: u32, room: &mut [u8]) -> Next
-    ensures { λ r. ⌜ came (r .link) (r .told) (now (room .exit)) ≡ pollStep link tick (now (room .entry)) ⌝ }
+pub fn poll(link: Link, tick: u32, buffer: &mut [u8]) -> Next
+    ensures { λ r. ⌜ came (r .link) (r .told) (now (buffer .exit)) ≡ pollStep link tick (now (buffer .entry)) ⌝ }
 {
-    let number = refusals::judge(link, room.len());
+    let number = refusals::judge(link, buffer.len());
     if number == 0 {
         let phase = link.phase;
         let gone = state::is_lost(phase, link.last, tick);
-        return answer(turns::stay(state::after_checks(link, tick)), gone, room);
+        return answer(turns::stay(state::after_checks(link, tick)), gone, buffer);
     }
     refusals::refuse(link, number)
 }
 
 // Data is to be sent.
-pub fn send(link: Link, bytes: &[u8], tick: u32, room: &mut [u8]) -> Next
-    ensures { λ r. ⌜ came (r .link) (r .told) (now (room .exit)) ≡ sendStep link (now (bytes .entry)) tick (now (room .entry)) ⌝ }
+pub fn send(link: Link, bytes: &[u8], tick: u32, buffer: &mut [u8]) -> Next
+    ensures { λ r. ⌜ came (r .link) (r .told) (now (buffer .exit)) ≡ sendStep link (now (bytes .entry)) tick (now (buffer .entry)) ⌝ }
 {
     let later = state::after_checks(link, tick);
-    let refusal = refusals::judge_send(link, later, bytes.len(), room.len());
+    let refusal = refusals::judge_send(link, later, bytes.len(), buffer.len());
     if refusal == 0 {
         let phase = link.phase;
         let gone = state::is_lost(phase, link.last, tick);
         let mut next = later;
         next.outstanding = true;
-        let sent = write_data(bytes, room);
+        let sent = write_data(bytes, buffer);
         return Next {
             link: next,
             told: Told {

@@ -9,16 +9,16 @@ ghost use mathlib.Core.Path.{_≡_};
 ghost use mathlib.Core.Bool.{true, false};
 ghost use mathlib.Core.List.{List};
 ghost use Prim.Native.Nat.{ℕ};
-ghost use Rattle.rooms.specs.Checks.{first};
-ghost use Rattle.link.specs.Answers.{came, refusal};
+ghost use Rattle.lists.specs.Checks.{first};
+ghost use Rattle.link.specs.Answers.{came, refusing};
 ghost use Rattle.link.specs.Link.{byPhase};
 ghost use Rattle.link.specs.Step.{checks, sendChecks};
 
 // The refusals of pull, byte and poll; 0 where there is none.
-pub fn judge(link: Link, room: usize) -> u8
-    ensures { λ r. ⌜ r ≡ first (checks link room) ⌝ }
+pub fn judge(link: Link, buffer: usize) -> u8
+    ensures { λ r. ⌜ r ≡ first (checks link buffer) ⌝ }
 {
-    rooms::check(state::is_sound(link), 5, rooms::check(67 <= room, 8, 0))
+    lists::check(state::is_sound(link), 5, lists::check(67 <= buffer, 8, 0))
 }
 
 // Whether data can be sent in this phase at all.
@@ -33,22 +33,22 @@ pub fn is_open(phase: Phase) -> bool
 }
 
 // The refusals of send; 5 judges the record as it came, the others the record after the silence and dead time checks.
-pub fn judge_send(link: Link, later: Link, count: usize, room: usize) -> u8
-    ensures { λ r. ⌜ r ≡ first (sendChecks link later count room) ⌝ }
+pub fn judge_send(link: Link, later: Link, count: usize, buffer: usize) -> u8
+    ensures { λ r. ⌜ r ≡ first (sendChecks link later count buffer) ⌝ }
 {
     let phase = later.phase;
     let alive = !later.dead;
     let rpc = later.rpc;
     let free = !later.outstanding;
-    let fits = rooms::check(count <= 64, 14, rooms::check(67 <= room, 8, 0));
-    let ready = rooms::check(rpc, 11, rooms::check(free, 13, fits));
-    let open = rooms::check(is_open(phase), 10, rooms::check(alive, 12, ready));
-    rooms::check(state::is_sound(link), 5, open)
+    let fits = lists::check(count <= 64, 14, lists::check(67 <= buffer, 8, 0));
+    let ready = lists::check(rpc, 11, lists::check(free, 13, fits));
+    let open = lists::check(is_open(phase), 10, lists::check(alive, 12, ready));
+    lists::check(state::is_sound(link), 5, open)
 }
 
 // A refused call: the record as it came, and nothing sent.
 pub fn refuse(link: Link, number: u8) -> Next
-    ensures { λ r. ⌜ ((room : List ℕ) → came (r .link) (r .told) room ≡ refusal number link room) ⌝ }
+    ensures { λ r. ⌜ ((buffer : List ℕ) → came (r .link) (r .told) buffer ≡ refusing number link buffer) ⌝ }
 {
     Next {
         link,

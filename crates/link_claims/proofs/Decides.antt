@@ -7,7 +7,7 @@ use native.Mathlib.Omega.{arith}
 use lib.ListN.{length}
 use lib.Dec.{eqb}
 use borrow.Author.Tests.{eqb-true, le-leb}
-use Rattle.rooms.specs.Checks.{first}
+use Rattle.lists.specs.Checks.{first}
 use Rattle.fields.specs.Checksum.{xored}
 use Rattle.link.specs.Clock.{stillDead}
 use Rattle.link.specs.Reading.{goodStart, allButSum, more, whole, wrong, reading}
@@ -115,10 +115,10 @@ not-dead : (dead : Bool) (last tick : ℕ) → dead ≡ false → stillDead dead
 unfolding stillDead
 not-dead dead last tick e = rw e
 
-module _ (l : Link) (p : Parts l) (d : l .dead ≡ false) (b tick : ℕ) (room : List ℕ) (wide : 67 ≤ length room) where
-  passed : first (checks l (length room)) ≡ 0
+module _ (l : Link) (p : Parts l) (d : l .dead ≡ false) (b tick : ℕ) (buffer : List ℕ) (wide : 67 ≤ length buffer) where
+  passed : first (checks l (length buffer)) ≡ 0
   unfolding checks first
-  passed = rw (whole-again l p, le-leb 67 (length room) wide)
+  passed = rw (whole-again l p, le-leb 67 (length buffer) wide)
 
   next-checked : Next l (received (checked l tick) b tick .link)
   unfolding checked
@@ -134,20 +134,20 @@ module _ (l : Link) (p : Parts l) (d : l .dead ≡ false) (b tick : ℕ) (room :
     by-lost true = ended (fresh-ignores b tick)
     by-lost false = again (next-received same (parts-dead l p (l .last) tick) (not-dead (l .dead) (l .last) tick d) b tick)
 
-  next-step : Next l (byteStep l b tick room .link)
+  next-step : Next l (byteStep l b tick buffer .link)
   unfolding byteStep call done
   next-step = rw passed next-checked
 
 onward : (l : Link) (c : Coming) (cs : List Coming) → 67 ≤ l .held + length (c ∷ cs)
     → ((l′ : Link) → Parts l′ → l′ .dead ≡ false → 67 ≤ l′ .held + length cs → Empties l′ cs)
-    → Next l (byteStep l (c .byte) (c .tick) (c .room) .link) → Empties l (c ∷ cs)
+    → Next l (byteStep l (c .byte) (c .tick) (c .buffer) .link) → Empties l (c ∷ cs)
 onward l c cs h go (ended e) = later (now e)
 onward l c cs h go (longer e f q) = later (go _ q f (omega arith))
 
 empties : (cs : List Coming) (l : Link) → Parts l → l .dead ≡ false → 67 ≤ l .held + length cs → Empties l cs
 empties [] l p d h = absurd (omega (arith, held-good (l .held) (l .kind) (l .frame) (p .holder) .most))
 empties (c ∷ cs) l p d h =
-    onward l c cs h (λ l′ q f k. empties cs l′ q f k) (next-step l p d (c .byte) (c .tick) (c .room) (c .wide))
+    onward l c cs h (λ l′ q f k. empties cs l′ q f k) (next-step l p d (c .byte) (c .tick) (c .buffer) (c .wide))
 
 pub decides : Decides
 decides l s n d cs h = empties cs l (parts l s n) d (omega arith)

@@ -9,7 +9,7 @@ use lib.Dec.{eqb·suc-zero}
 use lib.Seq.{take-append-seam, take-append-le}
 use borrow.Author.Tests.{eq-eqb, ne-eqb, le-leb, leb-true}
 use Rattle.fields.specs.Checksum.{xored}
-use Rattle.link.specs.Frames.{known, size, framed, heartbeat, status, dataFrame}
+use Rattle.link.specs.Frames.{known, size, frameOf, heartbeat, status, dataFrame}
 use Rattle.link.specs.Reading.{goodStart, begins, allButSum, lacksSum, reading}
 use Rattle.link.proofs.Ways.{and-both}
 use Rattle.link_claims.proofs.Sound.{no}
@@ -50,18 +50,18 @@ module _ (n : ℕ) (most : n ≤ 64) where
       ∙ rw a at (data-read (xs ++ (y ∷ [])) ys rest sum (omega (arith, length-append xs (y ∷ []))) (rw a e))
 
 heartbeat-read : (rest : List ℕ) → readFrom [] (heartbeat ++ rest) ≡ frame (0x01 ∷ []) rest
-unfolding framed xored readFrom reading allButSum goodStart lacksSum begins known size
+unfolding frameOf xored readFrom reading allButSum goodStart lacksSum begins known size
 heartbeat-read rest = refl
 
 status-read : (code : ℕ) → code ≤ 2 → (rest : List ℕ) → readFrom [] (status code ++ rest) ≡ frame (0x02 ∷ code ∷ []) rest
-unfolding framed allButSum goodStart lacksSum begins known size
+unfolding frameOf allButSum goodStart lacksSum begins known size
 status-read code h rest =
     goes-on [] 0x02 _ refl refl
     ∙ (goes-on (0x02 ∷ []) code _ refl (rw (le-leb code 2 h))
     ∙ closes (0x02 ∷ code ∷ []) _ rest (rw (le-leb code 2 h)) refl)
 
 own-data : (bytes : List ℕ) → length bytes ≤ 64 → (rest : List ℕ) → readFrom [] (dataFrame bytes ++ rest) ≡ frame (0x05 ∷ length bytes ∷ bytes) rest
-unfolding framed allButSum lacksSum goodStart begins known size
+unfolding frameOf allButSum lacksSum goodStart begins known size
 own-data bytes h rest =
     let a : (bytes ++ (xored 0 (0x05 ∷ length bytes ∷ bytes) ∷ [])) ++ rest ≡ bytes ++ (xored 0 (0x05 ∷ length bytes ∷ bytes) ∷ rest) = append-assoc bytes _ rest in
     rw a
@@ -80,8 +80,8 @@ start-parts t cs e =
     (a .0, leb-true (suc (length cs)) (size t (getD cs 0 0)) (a .1))
 
 -- bytes zs that lack for a good frame, and its checksum
-lacking : (bytes zs : List ℕ) → Good (framed (bytes ++ zs)) → Longer bytes
-unfolding framed
+lacking : (bytes zs : List ℕ) → Good (frameOf (bytes ++ zs)) → Longer bytes
+unfolding frameOf
 lacking bytes zs g =
     let last : List ℕ = xored 0 (bytes ++ zs) ∷ [] in
     record { rest = zs ++ last; some = omega (arith, length-append zs last); good = rw append-assoc at g }
@@ -158,7 +158,7 @@ prefix h bytes rest s e k =
     sym (take-append-seam bytes rest) ∙ (ap (take (length bytes)) (sym e) ∙ take-append-le (length bytes) h (s ∷ []) (omega arith))
 
 starts : (f : List ℕ) → Good f → (bytes rest : List ℕ) → f ≡ bytes ++ rest → 0 < length rest → goodStart bytes ≡ true
-unfolding framed
+unfolding frameOf
 starts _ a-heartbeat bytes rest e k = rw (prefix (0x01 ∷ []) bytes rest _ e k) (heartbeat-starts (length bytes))
 starts _ (a-status code h) bytes rest e k = rw (prefix (0x02 ∷ code ∷ []) bytes rest _ e k) (status-starts code (length bytes) h)
 starts _ (a-baud a b c d) bytes rest e k = rw (prefix (0x03 ∷ a ∷ b ∷ c ∷ d ∷ []) bytes rest _ e k) (baud-starts a b c d (length bytes))

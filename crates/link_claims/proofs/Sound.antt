@@ -7,20 +7,20 @@ use native.Mathlib.Omega.{arith}
 use lib.ListN.{length, set, length-set}
 use lib.Dec.{eqb, leb}
 use borrow.Author.Tests.{eqb-true, le-leb}
-use Rattle.rooms.specs.Bytes.{allAre}
-use Rattle.rooms.specs.Checks.{Check, first}
+use Rattle.lists.specs.Bytes.{allAre}
+use Rattle.lists.specs.Checks.{Check, first}
 use Rattle.fields.specs.Checksum.{xored}
 use Rattle.link.specs.Clock.{stillDead}
 use Rattle.link.specs.Frames.{heartbeat, status, dataFrame}
 use Rattle.link.specs.Reading.{goodStart, begins, allButSum, more, whole, wrong, reading}
-use Rattle.link.specs.Answers.{nothing, confirmed, failed, refused, ended, Move, move, done, refusal, padded}
+use Rattle.link.specs.Answers.{nothing, confirmed, failed, refused, ended, Move, move, done, refusing, padded}
 use Rattle.link.specs.Link.{byPhase, store, heldOf, atRest, fresh, inBaud, inOpen, renewed, kept, withRpc, withOutstanding, withDead, onList, fitsPhase, holderGood, sound}
 use Rattle.link.specs.Step.{answers, broken, lost, checked, pulled, baudFrame, statusFrame, controlFrame, takenData, openFrame, wholeFrame, byReading, heard, listens, received, checks, sendChecks, call, pullStep, byteStep, pollStep, sendStep}
 use Rattle.link.specs.declared.Link.{Link}
 use Rattle.link.specs.declared.Phase.{Phase}
 use Rattle.link.specs.declared.Phase.the-variants.{Start, Baud, Open}
 use Rattle.link.proofs.Holder.{lacks-held, held-kept, zero-kept}
-use Rattle.link.proofs.Ways.{and-both, held-good, room-left}
+use Rattle.link.proofs.Ways.{and-both, held-good, space-left}
 use Rattle.link_claims.specs.Calls.{Call, pull, byte, poll, send, step, after}
 use Rattle.link_claims.specs.Sound.{NeverRefused}
 
@@ -107,7 +107,7 @@ module _ (l : Link) (p : Parts l) where
   module _ (b tick : ℕ) (f : allButSum (heldOf l) ≡ false) where
     left : l .held < 66
     left = let h = held-good (l .held) (l .kind) (l .frame) (p .holder) in
-        room-left l tick (p .long) (p .holder) b (sym (lacks-held (l .held) (l .kind) (l .frame) (p .long) (h .most) (h .zeros)) ∙ f)
+        space-left l tick (p .long) (p .holder) b (sym (lacks-held (l .held) (l .kind) (l .frame) (p .long) (h .most) (h .zeros)) ∙ f)
 
     long-kept : length (kept l b tick .frame) ≡ 65
     unfolding kept
@@ -238,18 +238,18 @@ parts-checked l tick p = by-lost (lost (l .phase) (l .last) tick) where
   by-lost false = parts-dead l p (l .last) tick
 
 -- ---- a call
-module _ (table : List Check) (l : Link) (gone : Bool) (m : Move) (room : List ℕ) (fine : first table ≡ 0 → Fine m) where
-  parts-call : Parts l → Parts (call table l gone m room .link)
-  unfolding call done refusal
+module _ (table : List Check) (l : Link) (gone : Bool) (m : Move) (buffer : List ℕ) (fine : first table ≡ 0 → Fine m) where
+  parts-call : Parts l → Parts (call table l gone m buffer .link)
+  unfolding call done refusing
   parts-call p = by-number (eqb (first table) 0) refl where
-    by-number : (t : Bool) → eqb (first table) 0 ≡ t → Parts (cond t (done gone m room) (refusal (first table) l room) .link)
+    by-number : (t : Bool) → eqb (first table) 0 ≡ t → Parts (cond t (done gone m buffer) (refusing (first table) l buffer) .link)
     by-number true e = fine (eqb-true (first table) 0 e) .record-sound
     by-number false e = p
 
-  call-passes : (first table ≡ 5 → ⊥) → call table l gone m room .saying ≡ refused 5 → ⊥
-  unfolding call done refusal
+  call-passes : (first table ≡ 5 → ⊥) → call table l gone m buffer .saying ≡ refused 5 → ⊥
+  unfolding call done refusing
   call-passes h = by-number (eqb (first table) 0) refl where
-    by-number : (t : Bool) → eqb (first table) 0 ≡ t → cond t (done gone m room) (refusal (first table) l room) .saying ≡ refused 5 → ⊥
+    by-number : (t : Bool) → eqb (first table) 0 ≡ t → cond t (done gone m buffer) (refusing (first table) l buffer) .saying ≡ refused 5 → ⊥
     by-number true e q = fine (eqb-true (first table) 0 e) .not-refused 5 q
     by-number false e q = h (cc)
 
@@ -257,21 +257,21 @@ five : (t : Bool) (rest n : ℕ) → (n ≡ 5 → ⊥) → cond t rest n ≡ 5 �
 five true rest n h e = e
 five false rest n h e = absurd (h e)
 
-not-five : (l : Link) (room : ℕ) → sound l ≡ true → first (checks l room) ≡ 5 → ⊥
+not-five : (l : Link) (buffer : ℕ) → sound l ≡ true → first (checks l buffer) ≡ 5 → ⊥
 unfolding checks first
-not-five l room s e =
-    let a = five (leb 67 room) 0 8 (λ q. omega arith) (rw s at e) in
+not-five l buffer s e =
+    let a = five (leb 67 buffer) 0 8 (λ q. omega arith) (rw s at e) in
     omega arith
 
-send-not-five : (l l′ : Link) (count room : ℕ) → sound l ≡ true → first (sendChecks l l′ count room) ≡ 5 → ⊥
+send-not-five : (l l′ : Link) (count buffer : ℕ) → sound l ≡ true → first (sendChecks l l′ count buffer) ≡ 5 → ⊥
 unfolding sendChecks first
-send-not-five l l′ count room s e =
+send-not-five l l′ count buffer s e =
     let a = five (byPhase (l′ .phase) false false true) _ 10 (λ q. omega arith) (rw s at e) in
     let b = five (not (l′ .dead)) _ 12 (λ q. omega arith) a in
     let c = five (l′ .rpc) _ 11 (λ q. omega arith) b in
     let d = five (not (l′ .outstanding)) _ 13 (λ q. omega arith) c in
     let f = five (leb count 64) _ 14 (λ q. omega arith) d in
-    let g = five (leb 67 room) 0 8 (λ q. omega arith) f in
+    let g = five (leb 67 buffer) 0 8 (λ q. omega arith) f in
     omega arith
 
 is-open : (p : Phase) → byPhase p false false true ≡ true → p ≡ Open
@@ -283,29 +283,29 @@ zero-passes : (t : Bool) (rest n : ℕ) → cond t rest (suc n) ≡ 0 → (t ≡
 zero-passes true rest n e = (refl, e)
 zero-passes false rest n e = absurd (omega arith)
 
-send-open : (l l′ : Link) (count room : ℕ) → first (sendChecks l l′ count room) ≡ 0 → l′ .phase ≡ Open
+send-open : (l l′ : Link) (count buffer : ℕ) → first (sendChecks l l′ count buffer) ≡ 0 → l′ .phase ≡ Open
 unfolding sendChecks first
-send-open l l′ count room e = is-open (l′ .phase) (zero-passes _ _ 9 (zero-passes (sound l) _ 4 e .1) .0)
+send-open l l′ count buffer e = is-open (l′ .phase) (zero-passes _ _ 9 (zero-passes (sound l) _ 4 e .1) .0)
 
-fine-sent : (l : Link) (bytes : List ℕ) (tick room : ℕ) → Parts l → first (sendChecks l (checked l tick) (length bytes) room) ≡ 0
+fine-sent : (l : Link) (bytes : List ℕ) (tick buffer : ℕ) → Parts l → first (sendChecks l (checked l tick) (length bytes) buffer) ≡ 0
     → Fine (answers (withOutstanding (checked l tick) true) (dataFrame bytes))
-fine-sent l bytes tick room p e =
+fine-sent l bytes tick buffer p e =
     quietly (withOutstanding (checked l tick) true) (dataFrame bytes) (padded [])
-    (parts-outstanding (checked l tick) (parts-checked l tick p) true (send-open l (checked l tick) (length bytes) room e))
+    (parts-outstanding (checked l tick) (parts-checked l tick p) true (send-open l (checked l tick) (length bytes) buffer e))
 
 pub parts-step : (l : Link) (c : Call) → Parts l → Parts (step l c .link)
 unfolding step pullStep byteStep pollStep sendStep
-parts-step l (pull tick room) p = parts-call _ l _ _ room (λ _. fine-pulled (checked l tick) tick (parts-checked l tick p)) p
-parts-step l (byte b tick room) p = parts-call _ l _ _ room (λ _. fine-received (checked l tick) b tick (parts-checked l tick p)) p
-parts-step l (poll tick room) p = parts-call _ l _ _ room (λ _. quietly (checked l tick) [] (padded []) (parts-checked l tick p)) p
-parts-step l (send bytes tick room) p = parts-call _ l _ _ room (fine-sent l bytes tick (length room) p) p
+parts-step l (pull tick buffer) p = parts-call _ l _ _ buffer (λ _. fine-pulled (checked l tick) tick (parts-checked l tick p)) p
+parts-step l (byte b tick buffer) p = parts-call _ l _ _ buffer (λ _. fine-received (checked l tick) b tick (parts-checked l tick p)) p
+parts-step l (poll tick buffer) p = parts-call _ l _ _ buffer (λ _. quietly (checked l tick) [] (padded []) (parts-checked l tick p)) p
+parts-step l (send bytes tick buffer) p = parts-call _ l _ _ buffer (fine-sent l bytes tick (length buffer) p) p
 
 passes-step : (l : Link) (c : Call) → Parts l → step l c .saying ≡ refused 5 → ⊥
 unfolding step pullStep byteStep pollStep sendStep
-passes-step l (pull tick room) p = call-passes _ l _ _ room (λ _. fine-pulled (checked l tick) tick (parts-checked l tick p)) (not-five l (length room) (whole-again l p))
-passes-step l (byte b tick room) p = call-passes _ l _ _ room (λ _. fine-received (checked l tick) b tick (parts-checked l tick p)) (not-five l (length room) (whole-again l p))
-passes-step l (poll tick room) p = call-passes _ l _ _ room (λ _. quietly (checked l tick) [] (padded []) (parts-checked l tick p)) (not-five l (length room) (whole-again l p))
-passes-step l (send bytes tick room) p = call-passes _ l _ _ room (fine-sent l bytes tick (length room) p) (send-not-five l (checked l tick) (length bytes) (length room) (whole-again l p))
+passes-step l (pull tick buffer) p = call-passes _ l _ _ buffer (λ _. fine-pulled (checked l tick) tick (parts-checked l tick p)) (not-five l (length buffer) (whole-again l p))
+passes-step l (byte b tick buffer) p = call-passes _ l _ _ buffer (λ _. fine-received (checked l tick) b tick (parts-checked l tick p)) (not-five l (length buffer) (whole-again l p))
+passes-step l (poll tick buffer) p = call-passes _ l _ _ buffer (λ _. quietly (checked l tick) [] (padded []) (parts-checked l tick p)) (not-five l (length buffer) (whole-again l p))
+passes-step l (send bytes tick buffer) p = call-passes _ l _ _ buffer (fine-sent l bytes tick (length buffer) p) (send-not-five l (checked l tick) (length bytes) (length buffer) (whole-again l p))
 
 parts-after : (l : Link) (cs : List Call) → Parts l → Parts (after l cs)
 unfolding after

@@ -5,7 +5,7 @@ use Rattle.link.specs.Answers.{Step}
 use Rattle.link.specs.Step.{pullStep, byteStep, pollStep, sendStep}
 use Rattle.link.specs.declared.Link.{Link}
 
--- a call: a byte that is received or bytes that are to be sent, the tick, and the answer room that is lent
+-- a call: a byte that is received or bytes that are to be sent, the tick, and the answer buffer that is lent
 pub data Call : Type 0 where
   pull : ℕ → List ℕ → Call
   byte : ℕ → ℕ → List ℕ → Call
@@ -13,10 +13,10 @@ pub data Call : Type 0 where
   send : List ℕ → ℕ → List ℕ → Call
 
 unfoldable pub step : Link → Call → Step
-step l (pull tick room) = pullStep l tick room
-step l (byte b tick room) = byteStep l b tick room
-step l (poll tick room) = pollStep l tick room
-step l (send bytes tick room) = sendStep l bytes tick room
+step l (pull tick buffer) = pullStep l tick buffer
+step l (byte b tick buffer) = byteStep l b tick buffer
+step l (poll tick buffer) = pollStep l tick buffer
+step l (send bytes tick buffer) = sendStep l bytes tick buffer
 
 -- the record that the last of the calls hands back
 unfoldable pub after : Link → List Call → Link

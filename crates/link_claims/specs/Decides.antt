@@ -8,17 +8,17 @@ use Rattle.link.specs.Link.{sound}
 use Rattle.link.specs.Step.{byteStep}
 use Rattle.link.specs.declared.Link.{Link}
 
--- a byte that comes, with room enough for an answer
+-- a byte that comes, with buffer enough for an answer
 pub record Coming : Type 0 where
   pub byte : ℕ
   pub tick : ℕ
-  pub room : List ℕ
-  pub wide : 67 ≤ length room
+  pub buffer : List ℕ
+  pub wide : 67 ≤ length buffer
 
 -- the record holds nothing, at once or after one of these bytes
 pub data Empties : Link → List Coming → Type 0 where
   now : {l : Link} {cs : List Coming} → l .held ≡ 0 → Empties l cs
-  later : {l : Link} {c : Coming} {cs : List Coming} → Empties (byteStep l (c .byte) (c .tick) (c .room) .link) cs → Empties l (c ∷ cs)
+  later : {l : Link} {c : Coming} {cs : List Coming} → Empties (byteStep l (c .byte) (c .tick) (c .buffer) .link) cs → Empties l (c ∷ cs)
 
 -- whatever a record that refusal 5 lets pass holds, out of dead time 67 bytes decide, at whatever ticks
 abbrev pub Decides : Type 0

@@ -5,7 +5,7 @@ use mathlib.Core.Bool.{true}
 use mathlib.Core.Logic.{_↔_}
 use Prim.Native.Nat.{ℕ, _≤_, _<_}
 use lib.ListN.{length}
-use Rattle.link.specs.Frames.{framed, heartbeat, status, control, dataFrame}
+use Rattle.link.specs.Frames.{frameOf, heartbeat, status, control, dataFrame}
 use Rattle.link.specs.Reading.{reading, goodStart}
 use Rattle.link.specs.Step.{byReading}
 
@@ -29,7 +29,7 @@ pub record ReadsOwn : Type 0 where
 pub data Good : List ℕ → Type 0 where
   a-heartbeat : Good heartbeat
   a-status : (code : ℕ) → code ≤ 2 → Good (status code)
-  a-baud : (a b c d : ℕ) → Good (framed (0x03 ∷ a ∷ b ∷ c ∷ d ∷ []))
+  a-baud : (a b c d : ℕ) → Good (frameOf (0x03 ∷ a ∷ b ∷ c ∷ d ∷ []))
   a-control : (code : ℕ) → code ≤ 1 → Good (control code)
   a-data : (bytes : List ℕ) → length bytes ≤ 64 → Good (dataFrame bytes)
 

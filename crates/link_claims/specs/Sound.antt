@@ -5,6 +5,6 @@ use Rattle.link.specs.Answers.{refused}
 use Rattle.link.specs.Link.{fresh}
 use Rattle.link_claims.specs.Calls.{Call, step, after}
 
--- whatever the calls, their ticks and their rooms, the next call does not refuse the record with 5
+-- whatever the calls, their ticks and their buffers, the next call does not refuse the record with 5
 abbrev pub NeverRefused : Type 0
 NeverRefused = (calls : List Call) (next : Call) → step (after fresh calls) next .saying ≡ refused 5 → ⊥

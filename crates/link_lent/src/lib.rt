@@ -6,37 +6,37 @@ ghost use Rattle.link.specs.Answers.{came};
 ghost use Rattle.link.specs.Step.{pullStep, byteStep, pollStep, sendStep};
 
 // The line was pulled.
-pub fn pull(link: &mut Link, tick: u32, room: &mut [u8]) -> Told
-    ensures { λ r. ⌜ came (now (link .exit)) r (now (room .exit)) ≡ pullStep (now (link .entry)) tick (now (room .entry)) ⌝ }
+pub fn pull(link: &mut Link, tick: u32, buffer: &mut [u8]) -> Told
+    ensures { λ r. ⌜ came (now (link .exit)) r (now (buffer .exit)) ≡ pullStep (now (link .entry)) tick (now (buffer .entry)) ⌝ }
 {
-    let next = link::pull(*link, tick, room);
+    let next = link::pull(*link, tick, buffer);
     *link = next.link;
     next.told
 }
 
 // A byte was received.
-pub fn byte(link: &mut Link, byte: u8, tick: u32, room: &mut [u8]) -> Told
-    ensures { λ r. ⌜ came (now (link .exit)) r (now (room .exit)) ≡ byteStep (now (link .entry)) byte tick (now (room .entry)) ⌝ }
+pub fn byte(link: &mut Link, byte: u8, tick: u32, buffer: &mut [u8]) -> Told
+    ensures { λ r. ⌜ came (now (link .exit)) r (now (buffer .exit)) ≡ byteStep (now (link .entry)) byte tick (now (buffer .entry)) ⌝ }
 {
-    let next = link::byte(*link, byte, tick, room);
+    let next = link::byte(*link, byte, tick, buffer);
     *link = next.link;
     next.told
 }
 
 // Time has passed.
-pub fn poll(link: &mut Link, tick: u32, room: &mut [u8]) -> Told
-    ensures { λ r. ⌜ came (now (link .exit)) r (now (room .exit)) ≡ pollStep (now (link .entry)) tick (now (room .entry)) ⌝ }
+pub fn poll(link: &mut Link, tick: u32, buffer: &mut [u8]) -> Told
+    ensures { λ r. ⌜ came (now (link .exit)) r (now (buffer .exit)) ≡ pollStep (now (link .entry)) tick (now (buffer .entry)) ⌝ }
 {
-    let next = link::poll(*link, tick, room);
+    let next = link::poll(*link, tick, buffer);
     *link = next.link;
     next.told
 }
 
 // Data is to be sent.
-pub fn send(link: &mut Link, bytes: &[u8], tick: u32, room: &mut [u8]) -> Told
-    ensures { λ r. ⌜ came (now (link .exit)) r (now (room .exit)) ≡ sendStep (now (link .entry)) (now (bytes .entry)) tick (now (room .entry)) ⌝ }
+pub fn send(link: &mut Link, bytes: &[u8], tick: u32, buffer: &mut [u8]) -> Told
+    ensures { λ r. ⌜ came (now (link .exit)) r (now (buffer .exit)) ≡ sendStep (now (link .entry)) (now (bytes .entry)) tick (now (buffer .entry)) ⌝ }
 {
-    let next = link::send(*link, bytes, tick, room);
+    let next = link::send(*link, bytes, tick, buffer);
     *link = next.link;
     next.told
 }

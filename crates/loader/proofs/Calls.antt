@@ -9,8 +9,8 @@ use borrow.Author.Tests.{leb-true, eq-eqb, ne-eqb}
 use lib.Dec.{leb, eqb}
 use lib.ListN.{length, take, getD}
 use lib.Seq.{length-take-le}
-use Rattle.rooms.specs.Checks.{_orElse_}
-use Rattle.rooms.proofs.Tests.{both, Passed, first-passed}
+use Rattle.lists.specs.Checks.{_orElse_}
+use Rattle.lists.proofs.Tests.{both, Passed, first-passed}
 use Rattle.framing.specs.Frame.{longest}
 use Rattle.framing.specs.Packets.{Packet, dropped, read, header}
 use Rattle.framing.specs.Line.{stepOf, Steps}
@@ -19,11 +19,11 @@ use Rattle.framing.specs.declared.Closing.the-variants.{Open, Whole, Broken}
 use Rattle.framing.proofs.Steps.{step-held}
 use Rattle.commands.specs.Header.{command}
 use Rattle.loader.specs.Session.{sessionGood}
-use Rattle.loader.specs.Refusals.{Rooms, lentOf, wordCount, roomChecks, recordGood, refusal}
+use Rattle.loader.specs.Refusals.{BufferLengths, lengthsOf, wordCount, bufferChecks, recordGood, refusal}
 use Rattle.loader.specs.Errors.{errorOf}
 use Rattle.loader.specs.Answer.{answerBytes}
-use Rattle.loader.specs.Handle.{lent, carriedOut, failed, handle}
-use Rattle.loader.specs.Step.{Feeds, step, refusing, afterByte, closing, coreOf, roomsOf, answerRoom, toldOf}
+use Rattle.loader.specs.Handle.{lengths, carriedOut, failed, handle}
+use Rattle.loader.specs.Step.{Feeds, step, refusing, afterByte, afterPacket, coreOf, bufferLengths, answerBuffer, toldOf}
 use Rattle.loader.specs.Parts.{classified, Does, Replies, Acts}
 use Rattle.loader.specs.declared.Loader.{Loader}
 use Rattle.loader.specs.declared.Note.the-variants.{Nothing}
@@ -46,47 +46,47 @@ unheaded p true e = let z : _≡_ {A = ℕ} 0 1 = cc in absurd (omega arith)
 unheaded p false e = refl
 
 module _
-    (loader : Loader) (p room flash words : List ℕ) (x : code-packet.Packet) (is : x ≡ classified (header (some p))) where
+    (loader : Loader) (p buffer flash words : List ℕ) (x : code-packet.Packet) (is : x ≡ classified (header (some p))) where
   pub acts-dropped :
       x ≡ code.Dropped
-      → Acts (handle (coreOf loader flash words) (header (some p))) loader (length p) room
-      (record { answer = Dropped (length p); loader = loader }) room flash words
-  unfolding handle toldOf answerRoom header
+      → Acts (handle (coreOf loader flash words) (header (some p))) loader (length p) buffer
+      (record { answer = Dropped (length p); loader = loader }) buffer flash words
+  unfolding handle toldOf answerBuffer header
   acts-dropped e =
       rw (unheaded p (leb 8 (length p) && eqb (getD p 0 0) 0) (sym is ∙ e))
-      (record { says = refl; hands-back = refl; answer-room = refl; in-flash = refl; in-words = refl })
+      (record { says = refl; hands-back = refl; answer-buffer = refl; in-flash = refl; in-words = refl })
 
   module _ (n error sent : ℕ) (after : List ℕ) (e : x ≡ code.Read n)
-      (judged : error ≡ errorOf (lent (coreOf loader flash words)) (loader .session) p) where
+      (judged : error ≡ errorOf (lengths (coreOf loader flash words)) (loader .session) p) where
     packet-read : (header (some p) ≡ read p) × (n ≡ command p)
     unfolding header
     packet-read = headed p (leb 8 (length p) && eqb (getD p 0 0) 0) n (sym is ∙ e)
 
     pub acts-failed :
-        (error ≡ 0 → ⊥) → Replies (answerBytes n error 0) room sent after
-        → Acts (handle (coreOf loader flash words) (header (some p))) loader (length p) room
+        (error ≡ 0 → ⊥) → Replies (answerBytes n error 0) buffer sent after
+        → Acts (handle (coreOf loader flash words) (header (some p))) loader (length p) buffer
         (record { answer = Answered (length p) n error sent Nothing; loader = loader }) after flash words
-    unfolding handle failed toldOf answerRoom
+    unfolding handle failed toldOf answerBuffer
     acts-failed bad r =
         rw (packet-read .0, ← judged, ne-eqb error 0 bad, ← (packet-read .1))
-        (record { says = rw (r .sent); hands-back = refl; answer-room = r .room; in-flash = refl; in-words = refl })
+        (record { says = rw (r .sent); hands-back = refl; answer-buffer = r .buffer; in-flash = refl; in-words = refl })
 
     pub acts-done :
         (done : Done) (flash′ words′ : List ℕ) → error ≡ 0
         → Does (carriedOut (coreOf loader flash words) p) (command p) done flash′ words′
-        → Replies (answerBytes n 0 (done .value)) room sent after
-        → Acts (handle (coreOf loader flash words) (header (some p))) loader (length p) room
+        → Replies (answerBytes n 0 (done .value)) buffer sent after
+        → Acts (handle (coreOf loader flash words) (header (some p))) loader (length p) buffer
         (record {
           answer = Answered (length p) n 0 sent (done .note);
           loader = record { line = loader .line; session = done .session; attach = done .attach };
         }) after flash′ words′
-    unfolding handle toldOf answerRoom
+    unfolding handle toldOf answerBuffer
     acts-done done flash′ words′ good d r =
         rw (packet-read .0, ← judged, eq-eqb error 0 good)
         (record {
           says = rw (d .reply, r .sent, packet-read .1);
           hands-back = rw (d .session, d .attach);
-          answer-room = rw (d .reply, ← (packet-read .1)) (r .room);
+          answer-buffer = rw (d .reply, ← (packet-read .1)) (r .buffer);
           in-flash = d .in-flash;
           in-words = d .in-words;
         })
@@ -94,20 +94,20 @@ module _
 -- ---- a call
 
 -- what no refusal leaves to doubt
-pub record Allowed (r : Loader) (rooms : Rooms) : Type 0 where
-  pub for-packet : longest ≤ rooms .packet
-  pub for-answer : 22 ≤ rooms .answer
-  pub for-words : rooms .words ≤ 16384
+pub record Allowed (r : Loader) (buffers : BufferLengths) : Type 0 where
+  pub for-packet : longest ≤ buffers .packet
+  pub for-answer : 22 ≤ buffers .answer
+  pub for-words : buffers .words ≤ 16384
   pub held : r .line .held ≤ longest
-  pub session : sessionGood (lentOf rooms) (r .session) ≡ true
+  pub session : sessionGood (lengthsOf buffers) (r .session) ≡ true
 
-pub allowed : (r : Loader) (rooms : Rooms) → refusal r rooms ≡ 0 → Allowed r rooms
-unfolding refusal roomChecks wordCount recordGood
-allowed r rooms e =
-    let t : Passed (roomChecks rooms ++ (recordGood (lentOf rooms) r orElse 5 ∷ [])) = first-passed _ refl e in
-    let w = both (leb 1 (rooms .words)) _ (t .1 .1 .1 .0) in
+pub allowed : (r : Loader) (buffers : BufferLengths) → refusal r buffers ≡ 0 → Allowed r buffers
+unfolding refusal bufferChecks wordCount recordGood
+allowed r buffers e =
+    let t : Passed (bufferChecks buffers ++ (recordGood (lengthsOf buffers) r orElse 5 ∷ [])) = first-passed _ refl e in
+    let w = both (leb 1 (buffers .words)) _ (t .1 .1 .1 .0) in
     let g = both (leb (r .line .held) longest) _ (t .1 .1 .1 .1 .0) in
-    let s = both (sessionGood (lentOf rooms) (r .session)) _ (g .1) in
+    let s = both (sessionGood (lengthsOf buffers) (r .session)) _ (g .1) in
     record {
       for-packet = leb-true _ _ (t .0);
       for-answer = leb-true _ _ (t .1 .0);
@@ -118,7 +118,7 @@ allowed r rooms e =
 
 module _
     (loader : Loader) (b : ℕ) (packet answer flash words : List ℕ) (n : ℕ)
-    (judged : n ≡ refusal loader (roomsOf packet answer flash words)) where
+    (judged : n ≡ refusal loader (bufferLengths packet answer flash words)) where
   pub refused :
       (n ≡ 0 → ⊥)
       → Feeds (step loader b packet answer flash words) (record { answer = Refused n; loader = loader }) packet answer flash words
@@ -126,7 +126,7 @@ module _
   refused bad =
       rw (← judged, ne-eqb n 0 bad)
       (record
-      { says = refl; hands-back = refl; packet-room = refl; answer-room = refl; in-flash = refl; in-words = refl })
+      { says = refl; hands-back = refl; packet-buffer = refl; answer-buffer = refl; in-flash = refl; in-words = refl })
 
   module _ (good : n ≡ 0) (packet′ : List ℕ) (s : Stepped) (stepped : Steps (stepOf (loader .line) b packet) s packet′) where
     abbrev next : Loader
@@ -136,7 +136,7 @@ module _
         (r : Fed) (a f w : List ℕ) → Feeds (afterByte (s .closing) (s .line) loader packet′ answer flash words) r packet′ a f w
         → Feeds (step loader b packet answer flash words) r packet′ a f w
     unfolding step
-    going-on r a f w h = rw (← judged, eq-eqb n 0 good, ← (stepped .answer), ← (stepped .room)) h
+    going-on r a f w h = rw (← judged, eq-eqb n 0 good, ← (stepped .answer), ← (stepped .buffer)) h
 
     pub byte-taken :
         s .closing ≡ Open
@@ -146,22 +146,22 @@ module _
         going-on _ _ _ _
         (rw e
         (record
-        { says = refl; hands-back = refl; packet-room = refl; answer-room = refl; in-flash = refl; in-words = refl }))
+        { says = refl; hands-back = refl; packet-buffer = refl; answer-buffer = refl; in-flash = refl; in-words = refl }))
 
     pub packet-broken :
         (m : ℕ) → s .closing ≡ Broken m
         → Feeds (step loader b packet answer flash words) (record { answer = Dropped m; loader = next }) packet′ answer flash words
-    unfolding afterByte closing handle header toldOf answerRoom
+    unfolding afterByte afterPacket handle header toldOf answerBuffer
     packet-broken m e =
         going-on _ _ _ _
         (rw e
         (record
-        { says = refl; hands-back = refl; packet-room = refl; answer-room = refl; in-flash = refl; in-words = refl }))
+        { says = refl; hands-back = refl; packet-buffer = refl; answer-buffer = refl; in-flash = refl; in-words = refl }))
 
-    -- a whole packet has as many bytes as the line held, and they are in the room
+    -- a whole packet has as many bytes as the line held, and they are in the buffer
     pub whole-fits : (m : ℕ) → s .closing ≡ Whole m → length packet′ ≡ length packet → m ≤ length packet′
     whole-fits m e long =
-        let a = allowed loader (roomsOf packet answer flash words) (sym judged ∙ good) in
+        let a = allowed loader (bufferLengths packet answer flash words) (sym judged ∙ good) in
         let h : m ≡ loader .line .held = step-held (loader .line) b packet m (ap (λ (q : Stepped). q .closing) (sym (stepped .answer)) ∙ e) in
         omega arith
 
@@ -169,7 +169,7 @@ module _
         (m : ℕ) (r : Fed) (a f w : List ℕ) → s .closing ≡ Whole m → m ≤ length packet′
         → Acts (handle (coreOf next flash words) (header (some (take m packet′)))) next (length (take m packet′)) answer r a f w
         → Feeds (step loader b packet answer flash words) r packet′ a f w
-    unfolding afterByte closing
+    unfolding afterByte afterPacket
     packet-acted m r a f w e fits h =
         let q : length (take m packet′) ≡ m = length-take-le m packet′ fits in
         going-on r a f w
@@ -177,8 +177,8 @@ module _
         (record {
           says = rw q at (h .says);
           hands-back = h .hands-back;
-          packet-room = refl;
-          answer-room = h .answer-room;
+          packet-buffer = refl;
+          answer-buffer = h .answer-buffer;
           in-flash = h .in-flash;
           in-words = h .in-words;
         }))

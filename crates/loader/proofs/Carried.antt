@@ -1,16 +1,16 @@
--- A good command by its number: what the rooms allow it, and what it leaves.
+-- A good command by its number: what the buffers allow it, and what it leaves.
 use Prim.Native.Nat.{ℕ, _+_, _≤_, _<_}
 use mathlib.Core.Path.{_≡_, refl, sym, _∙_}
 use mathlib.Core.List.{List}
 use mathlib.Core.Bool.{Bool, true, false, cond}
 use lib.Dec.{eqb}
 use lib.ListN.{length}
-use Rattle.rooms.proofs.Tests.{absurd-test, both, Passed, first-passed}
+use Rattle.lists.proofs.Tests.{absurd-test, both, Passed, first-passed}
 use Rattle.fields.specs.Words.{word}
 use Rattle.commands.specs.Header.{command}
 use Rattle.commands.specs.Begin.{roundUp, flashRule, memoryRule}
 use Rattle.commands.specs.Parameters.{registerRule, writeRule, place}
-use Rattle.commands.specs.declared.Lent.{Lent}
+use Rattle.commands.specs.declared.Lengths.{Lengths}
 use Rattle.commands.proofs.Rules.{Ruled, ruled, Inside, inside, data-length, register-place}
 use Rattle.loader.specs.Session.{flashOpen, memoryOpen, announced, accepted, sessionGood}
 use Rattle.loader.specs.Errors.{Kind, kind, sync, unknown, checks, plainChecks, errorOf}
@@ -25,7 +25,7 @@ use Rattle.loader.proofs.Checks.{all-numbered, DataPassed, data-passed}
 
 -- ---- what the checks that passed say
 
-module _ (l : Lent) (s : Session) (p : List ℕ) (c : ℕ) (is : c ≡ command p) (good : errorOf l s p ≡ 0) where
+module _ (l : Lengths) (s : Session) (p : List ℕ) (c : ℕ) (is : c ≡ command p) (good : errorOf l s p ≡ 0) where
   passed : (n : ℕ) → c ≡ n → Passed (checks l s (kind n) p)
   unfolding errorOf
   passed n e = first-passed _ (all-numbered l s (kind n) p) (rw (sym is ∙ e) at good)
@@ -66,7 +66,7 @@ module _ (l : Lent) (s : Session) (p : List ℕ) (c : ℕ) (is : c ≡ command p
         × (length p ≡ 24 + announced s .block)
     flash-ready e =
         let d = flash-data e in
-        (flash-ruled s refl (d .is-open) .room, d .more, data-length p _ (d .is-shaped) (d .sized-block))
+        (flash-ruled s refl (d .is-open) .within, d .more, data-length p _ (d .is-shaped) (d .sized-block))
 
     pub memory-ready : c ≡ 0x07 → Inside l (announced s) × (accepted s < announced s .count)
     memory-ready e = let d = memory-data e in (memory-ruled s refl (d .is-open), d .more)

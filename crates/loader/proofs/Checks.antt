@@ -5,15 +5,15 @@ use mathlib.Core.Bool.{Bool, true, false, cond}
 use Prim.Native.Nat.{ℕ, _<_}
 use borrow.Author.Tests.{ltb-true, eqb-true, eqb-false, lt-ltb, eq-eqb}
 use lib.Dec.{eqb}
-use Rattle.rooms.proofs.Tests.{Passed, numbered, passed-first, first-passed}
+use Rattle.lists.proofs.Tests.{Passed, numbered, passed-first, first-passed}
 use Rattle.fields.specs.Words.{word}
 use Rattle.framing.specs.Packets.{read}
 use Rattle.commands.specs.Header.{command, dataShaped}
-use Rattle.commands.specs.declared.Lent.{Lent}
+use Rattle.commands.specs.declared.Lengths.{Lengths}
 use Rattle.commands.specs.Block.{zeroWords, sumGood, paddingGood}
 use Rattle.loader.specs.Session.{announced, accepted}
 use Rattle.loader.specs.Errors.{Kind, kind, flash-begin, flash-data, flash-end, memory-begin, memory-end, memory-data, sync, write-reg, read-reg, spi-attach, unknown, plainChecks, endChecks, dataChecks, checks, errorOf}
-use Rattle.loader.specs.Handle.{Core, Handled, lent, carriedOut, failed, handle}
+use Rattle.loader.specs.Handle.{Core, Handled, lengths, carriedOut, failed, handle}
 use Rattle.loader.specs.declared.Session.{Session}
 
 -- the number of a command that the grammar speaks of, by its kind
@@ -50,7 +50,7 @@ is c = go _ _ _ _ (eqb c 6) (eqb c 7) (eqb c 8) (eqb c 9) (eqb c 10) (eqb c 13) 
     go false false false false false false false false false true p q r s = is-spi-attach
     go false false false false false false false false false false p q r s = is-unknown
 
-pub all-numbered : (l : Lent) (s : Session) (k : Kind) (p : List ℕ) → numbered (checks l s k p) ≡ true
+pub all-numbered : (l : Lengths) (s : Session) (k : Kind) (p : List ℕ) → numbered (checks l s k p) ≡ true
 unfolding checks plainChecks endChecks dataChecks
 all-numbered l s flash-begin p = refl
 all-numbered l s flash-data p = refl
@@ -115,7 +115,7 @@ end-passes d = (d .is-shaped, (d .is-open, (d .is-ruled, (eq-eqb _ _ (d .all), t
 module _ (c : Core) (p : List ℕ) where
   -- the checks of the packet's command all pass
   abbrev pub Passes : Type 0
-  Passes = Passed (checks (lent c) (c .session) (kind (command p)) p)
+  Passes = Passed (checks (lengths c) (c .session) (kind (command p)) p)
 
   pub good-handled : Passes → handle c (read p) ≡ carriedOut c p
   unfolding handle errorOf
@@ -125,9 +125,9 @@ module _ (c : Core) (p : List ℕ) where
   pub handle-cases : (P : Handled → Type 0) → ((e : ℕ) → (e ≡ 0 → ⊥) → P (failed c p e)) → (Passes → P (carriedOut c p))
       → P (handle c (read p))
   unfolding handle errorOf
-  handle-cases P bad good = go (eqb (errorOf (lent c) (c .session) p) 0) refl
+  handle-cases P bad good = go (eqb (errorOf (lengths c) (c .session) p) 0) refl
     where
-      go : (x : Bool) → eqb (errorOf (lent c) (c .session) p) 0 ≡ x
-          → P (cond x (carriedOut c p) (failed c p (errorOf (lent c) (c .session) p)))
-      go true e = good (first-passed _ (all-numbered (lent c) (c .session) (kind (command p)) p) (eqb-true _ 0 e))
+      go : (x : Bool) → eqb (errorOf (lengths c) (c .session) p) 0 ≡ x
+          → P (cond x (carriedOut c p) (failed c p (errorOf (lengths c) (c .session) p)))
+      go true e = good (first-passed _ (all-numbered (lengths c) (c .session) (kind (command p)) p) (eqb-true _ 0 e))
       go false e = bad _ (eqb-false _ 0 e)

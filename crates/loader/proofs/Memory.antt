@@ -7,8 +7,8 @@ use native.Mathlib.Numerals.{add-one}
 use native.Mathlib.Omega.{arith}
 use lib.ListN.{length, set, length-append}
 use lib.Seq.{getD-drop}
-use Rattle.rooms.specs.Lay.{lay}
-use Rattle.rooms.proofs.Laws.{lay-more}
+use Rattle.lists.specs.Lay.{lay}
+use Rattle.lists.proofs.Laws.{lay-more}
 use Rattle.fields.specs.Words.{word}
 use Rattle.commands.specs.Block.{payload}
 use Rattle.loader.specs.Effects.{wordsOf}

@@ -5,14 +5,14 @@ use mathlib.Core.List.{List}
 use mathlib.Core.Bool.{cond}
 use borrow.Author.Tests.{ne-eqb}
 use lib.Dec.{eqb}
-use Rattle.rooms.specs.Checks.{first}
+use Rattle.lists.specs.Checks.{first}
 use Rattle.commands.specs.Header.{command}
-use Rattle.commands.specs.declared.Lent.{Lent}
+use Rattle.commands.specs.declared.Lengths.{Lengths}
 use Rattle.loader.specs.Errors.{kind, sync, unknown, checks, errorOf}
 use Rattle.loader.specs.declared.Session.{Session}
 
 pub error-at :
-    (l : Lent) (s : Session) (p : List ℕ) (n c e : ℕ) → c ≡ command p → c ≡ n → e ≡ first (checks l s (kind n) p)
+    (l : Lengths) (s : Session) (p : List ℕ) (n c e : ℕ) → c ≡ command p → c ≡ n → e ≡ first (checks l s (kind n) p)
     → e ≡ errorOf l s p
 unfolding errorOf
 error-at l s p n c e a b h = rw (sym a ∙ b) h
@@ -36,6 +36,6 @@ kind-rest c h2 h3 h4 h5 h6 h7 h9 hA hD =
     )
 
 -- a command that is none of the ten
-pub error-none : (l : Lent) (s : Session) (p : List ℕ) (c : ℕ) → c ≡ command p → kind c ≡ unknown → 0xFF ≡ errorOf l s p
+pub error-none : (l : Lengths) (s : Session) (p : List ℕ) (c : ℕ) → c ≡ command p → kind c ≡ unknown → 0xFF ≡ errorOf l s p
 unfolding errorOf checks first
 error-none l s p c a e = rw (← a, e)

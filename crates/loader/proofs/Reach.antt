@@ -5,8 +5,8 @@ use mathlib.Core.List.{List}
 use native.Mathlib.Omega.{arith}
 use lib.ListN.{length, replicate, take, drop, length-drop}
 use lib.Seq.{length-take-le}
-use Rattle.rooms.specs.Lay.{lay}
-use Rattle.rooms.proofs.Laws.{lay-lay}
+use Rattle.lists.specs.Lay.{lay}
+use Rattle.lists.proofs.Laws.{lay-lay}
 use Rattle.commands.specs.Begin.{reached, roundUp}
 use Rattle.commands.specs.Block.{payload}
 use Rattle.commands.specs.declared.Begin.{Begin}
@@ -21,7 +21,7 @@ data-part n p = let e : 24 + n - 24 ≡ n = omega arith in rw e
 -- One block's writes, in the numbers that the code has: old and new reach, sector end, and flash of n bytes.
 module _
     (g : Begin) (k old new n : ℕ) (p : List ℕ) (eo : old ≡ reached g k) (en : new ≡ reached g (k + 1))
-    (room : g .offset + roundUp (g .size) ≤ n) (long : length p ≡ 24 + g .block) where
+    (within : g .offset + roundUp (g .size) ≤ n) (long : length p ≡ 24 + g .block) where
   data-long : new - old ≤ length (payload p)
   unfolding payload
   data-long = let r = reaches g k in rw (length-drop 24 p) (omega arith)

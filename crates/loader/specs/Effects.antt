@@ -4,7 +4,7 @@ use mathlib.Core.Bool.{cond}
 use Prim.Native.Nat.{ℕ, zero, suc, _+_, _-_, _*_, _/_}
 use lib.Dec.{eqb}
 use lib.ListN.{take, getD, set, replicate}
-use Rattle.rooms.specs.Lay.{lay}
+use Rattle.lists.specs.Lay.{lay}
 use Rattle.fields.specs.Words.{word}
 use Rattle.fields.specs.Merge.{merged}
 use Rattle.commands.specs.Begin.{beginOf, roundUp, reached}

@@ -3,14 +3,14 @@ use mathlib.Core.List.{List, [], _∷_}
 use mathlib.Core.Bool.{Bool, false, cond}
 use Prim.Native.Nat.{ℕ}
 use lib.Dec.{ltb, eqb}
-use Rattle.rooms.specs.Checks.{Check, _orElse_, first}
+use Rattle.lists.specs.Checks.{Check, _orElse_, first}
 use Rattle.fields.specs.Words.{word}
 use Rattle.fields.specs.Pins.{attachGood}
 use Rattle.commands.specs.Header.{command, shaped, dataShaped}
 use Rattle.commands.specs.Begin.{beginOf, flashRule, memoryRule}
 use Rattle.commands.specs.Block.{zeroWords, sumGood, paddingGood}
 use Rattle.commands.specs.Parameters.{flashEndRule, memoryEndRule, syncRule, registerRule, writeRule}
-use Rattle.commands.specs.declared.Lent.{Lent}
+use Rattle.commands.specs.declared.Lengths.{Lengths}
 use Rattle.loader.specs.Session.{flashOpen, memoryOpen, announced, accepted}
 use Rattle.loader.specs.declared.Session.{Session}
 
@@ -56,7 +56,7 @@ endChecks isShaped isOpen isRuled s =
 unfoldable pub plainChecks : Bool → Bool → List Check
 plainChecks isShaped isRuled = isShaped orElse 0xC0 ∷ isRuled orElse 0xC5 ∷ []
 
-unfoldable pub checks : Lent → Session → Kind → List ℕ → List Check
+unfoldable pub checks : Lengths → Session → Kind → List ℕ → List Check
 checks l s flash-begin p = plainChecks (shaped 16 p) (flashRule l (beginOf p))
 checks l s flash-data p = dataChecks (flashOpen s) s p
 checks l s flash-end p = endChecks (shaped 4 p) (flashOpen s) (flashEndRule p) s
@@ -70,5 +70,5 @@ checks l s spi-attach p = plainChecks (shaped 4 p) (attachGood (word p 8))
 checks l s unknown p = false orElse 0xFF ∷ []
 
 -- the error byte of a read packet, 0 on success
-unfoldable pub errorOf : Lent → Session → List ℕ → ℕ
+unfoldable pub errorOf : Lengths → Session → List ℕ → ℕ
 errorOf l s p = first (checks l s (kind (command p)) p)

@@ -6,7 +6,7 @@ use lib.Dec.{eqb}
 use lib.ListN.{length}
 use Rattle.framing.specs.Packets.{Packet, dropped, read}
 use Rattle.commands.specs.Header.{command}
-use Rattle.commands.specs.declared.Lent.{Lent}
+use Rattle.commands.specs.declared.Lengths.{Lengths}
 use Rattle.loader.specs.Errors.{kind, errorOf}
 use Rattle.loader.specs.Effects.{sessionAfter, flashAfter, wordsAfter, attachAfter, valueAfter, noteAfter}
 use Rattle.loader.specs.declared.Session.{Session}
@@ -20,8 +20,8 @@ pub record Core : Type 0 where
   pub flash : List ℕ
   pub words : List ℕ
 
-abbrev pub lent : Core → Lent
-lent c = record { flash = length (c .flash); words = length (c .words) }
+abbrev pub lengths : Core → Lengths
+lengths c = record { flash = length (c .flash); words = length (c .words) }
 
 -- what a packet is answered with: nothing, or its command with an error, a value, and what the caller is told
 pub data Reply : Type 0 where
@@ -53,6 +53,6 @@ failed c p error = record { reply = replied (command p) error 0 Nothing; core = 
 unfoldable pub handle : Core → Packet → Handled
 handle c dropped = record { reply = nothing; core = c }
 handle c (read p) =
-    cond (eqb (errorOf (lent c) (c .session) p) 0)
+    cond (eqb (errorOf (lengths c) (c .session) p) 0)
     (carriedOut c p)
-    (failed c p (errorOf (lent c) (c .session) p))
+    (failed c p (errorOf (lengths c) (c .session) p))

@@ -4,13 +4,13 @@ use mathlib.Core.Path.{_≡_}
 use mathlib.Core.List.{List}
 use mathlib.Core.Bool.{true}
 use lib.ListN.{length}
-use Rattle.rooms.specs.Lay.{lay}
+use Rattle.lists.specs.Lay.{lay}
 use Rattle.framing.specs.Frame.{framed}
 use Rattle.framing.specs.Packets as packets
 use Rattle.commands.specs.Header.{command}
 use Rattle.loader.specs.Session.{sessionGood}
 use Rattle.loader.specs.Handle.{Handled, replied}
-use Rattle.loader.specs.Step.{told, toldOf, answerRoom}
+use Rattle.loader.specs.Step.{told, toldOf, answerBuffer}
 use Rattle.loader.specs.declared.Session.{Session}
 use Rattle.loader.specs.declared.Loader.{Loader}
 use Rattle.loader.specs.declared.Fed.{Fed}
@@ -23,7 +23,7 @@ abbrev pub classified : packets.Packet → Packet
 classified packets.dropped = code.Dropped
 classified (packets.read p) = code.Read (command p)
 
--- the rooms and the session that a command finds once no refusal applies
+-- the buffers and the session that a command finds once no refusal applies
 pub record Ready (session : Session) (flash words : List ℕ) : Type 0 where
   pub good : sessionGood (record { flash = length flash; words = length words }) session ≡ true
   pub most-words : length words ≤ 16384
@@ -36,15 +36,15 @@ pub record Does (h : Handled) (number : ℕ) (r : Done) (flash words : List ℕ)
   pub in-flash : flash ≡ h .core .flash
   pub in-words : words ≡ h .core .words
 
--- the answer's bytes, framed, stand at the front of the room, and their length is told
+-- the answer's bytes, framed, stand at the front of the buffer, and their length is told
 pub record Replies (bytes before : List ℕ) (r : ℕ) (after : List ℕ) : Type 0 where
   pub sent : r ≡ length (framed bytes)
-  pub room : after ≡ lay before 0 (framed bytes)
+  pub buffer : after ≡ lay before 0 (framed bytes)
 
--- what handling a whole packet comes to: the answer, the next record, and the rooms but for the packet room
-pub record Acts (h : Handled) (before : Loader) (stored : ℕ) (room : List ℕ) (r : Fed) (answer flash words : List ℕ) : Type 0 where
+-- what handling a whole packet comes to: the answer, the next record, and the buffers but for the packet buffer
+pub record Acts (h : Handled) (before : Loader) (stored : ℕ) (buffer : List ℕ) (r : Fed) (answer flash words : List ℕ) : Type 0 where
   pub says : told (r .answer) ≡ toldOf stored (h .reply)
   pub hands-back : r .loader ≡ record { line = before .line; session = h .core .session; attach = h .core .attach }
-  pub answer-room : answer ≡ answerRoom (h .reply) room
+  pub answer-buffer : answer ≡ answerBuffer (h .reply) buffer
   pub in-flash : flash ≡ h .core .flash
   pub in-words : words ≡ h .core .words

@@ -3,23 +3,23 @@ use mathlib.Core.List.{List, [], _∷_, _++_}
 use mathlib.Core.Bool.{Bool, _&&_}
 use Prim.Native.Nat.{ℕ, _%_}
 use lib.Dec.{leb, eqb}
-use Rattle.rooms.specs.Checks.{Check, _orElse_, first}
+use Rattle.lists.specs.Checks.{Check, _orElse_, first}
 use Rattle.fields.specs.Pins.{attachGood}
 use Rattle.framing.specs.Frame.{longest}
-use Rattle.commands.specs.declared.Lent.{Lent}
+use Rattle.commands.specs.declared.Lengths.{Lengths}
 use Rattle.loader.specs.Session.{sessionGood}
 use Rattle.loader.specs.declared.Loader.{Loader}
 
--- the lengths of what a call lends: packet room, answer room, flash, words
-pub record Rooms : Type 0 where
+-- the lengths of what a call lends: packet buffer, answer buffer, flash, words
+pub record BufferLengths : Type 0 where
   pub packet : ℕ
   pub answer : ℕ
   pub flash : ℕ
   pub words : ℕ
 
 -- those that the BEGIN rules speak of
-abbrev pub lentOf : Rooms → Lent
-lentOf r = record { flash = r .flash; words = r .words }
+abbrev pub lengthsOf : BufferLengths → Lengths
+lengthsOf r = record { flash = r .flash; words = r .words }
 
 -- "flash length 0, not a multiple of 4,096, or over 4,194,304"
 unfoldable pub flashLength : ℕ → Bool
@@ -29,9 +29,9 @@ flashLength n = leb 1 n && (eqb (n % 4096) 0 && leb n 4194304)
 unfoldable pub wordCount : ℕ → Bool
 wordCount n = leb 1 n && leb n 16384
 
--- refusals 1 to 4: the rooms lent
-unfoldable pub roomChecks : Rooms → List Check
-roomChecks r =
+-- refusals 1 to 4: the buffers lent
+unfoldable pub bufferChecks : BufferLengths → List Check
+bufferChecks r =
     leb longest (r .packet) orElse 1
     ∷ leb 22 (r .answer) orElse 2
     ∷ flashLength (r .flash) orElse 3
@@ -39,9 +39,9 @@ roomChecks r =
     ∷ []
 
 -- "more than 4,120 bytes held, a session whose numbers fail the BEGIN rules for these lengths, more blocks accepted than announced, or an attach word that would be refused"
-unfoldable pub recordGood : Lent → Loader → Bool
+unfoldable pub recordGood : Lengths → Loader → Bool
 recordGood l r = leb (r .line .held) longest && (sessionGood l (r .session) && attachGood (r .attach))
 
 -- the number that a call is refused with, 0 where it is not
-unfoldable pub refusal : Loader → Rooms → ℕ
-refusal r rooms = first (roomChecks rooms ++ (recordGood (lentOf rooms) r orElse 5 ∷ []))
+unfoldable pub refusal : Loader → BufferLengths → ℕ
+refusal r buffers = first (bufferChecks buffers ++ (recordGood (lengthsOf buffers) r orElse 5 ∷ []))

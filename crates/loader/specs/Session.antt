@@ -4,7 +4,7 @@ use Prim.Native.Nat.{ℕ, _+_}
 use lib.Dec.{leb}
 use Rattle.commands.specs.Begin.{flashRule, memoryRule}
 use Rattle.commands.specs.declared.Begin.{Begin}
-use Rattle.commands.specs.declared.Lent.{Lent}
+use Rattle.commands.specs.declared.Lengths.{Lengths}
 use Rattle.loader.specs.declared.Session.{Session}
 use Rattle.loader.specs.declared.Session.the-variants.{Closed, Flash, Memory}
 
@@ -37,7 +37,7 @@ advanced (Flash g k) = Flash g (k + 1)
 advanced (Memory g k) = Memory g (k + 1)
 
 -- refusal 5, of the session: its numbers keep the BEGIN rules for these lengths, and no more blocks are accepted than announced
-unfoldable pub sessionGood : Lent → Session → Bool
+unfoldable pub sessionGood : Lengths → Session → Bool
 sessionGood l Closed = true
 sessionGood l (Flash g k) = flashRule l g && leb k (g .count)
 sessionGood l (Memory g k) = memoryRule l g && leb k (g .count)

@@ -1,4 +1,4 @@
--- What one call comes to: its answer, the next record, and each lent room afterwards, for every input.
+-- What one call comes to: its answer, the next record, and each lent buffer afterwards, for every input.
 use Prim.Native.Nat.{ℕ}
 use mathlib.Core.Path.{_≡_}
 use mathlib.Core.List.{List}
@@ -6,7 +6,7 @@ use mathlib.Core.Bool.{cond}
 use mathlib.Core.Option.{none, some}
 use lib.ListN.{length, take}
 use lib.Dec.{eqb}
-use Rattle.rooms.specs.Lay.{lay}
+use Rattle.lists.specs.Lay.{lay}
 use Rattle.framing.specs.Frame.{framed}
 use Rattle.framing.specs.Packets.{header}
 use Rattle.framing.specs.Line.{stepOf}
@@ -14,7 +14,7 @@ use Rattle.framing.specs.Run.{fresh}
 use Rattle.framing.specs.declared.Line.{Line}
 use Rattle.framing.specs.declared.Closing.{Closing}
 use Rattle.framing.specs.declared.Closing.the-variants.{Open, Whole, Broken}
-use Rattle.loader.specs.Refusals.{Rooms, refusal}
+use Rattle.loader.specs.Refusals.{BufferLengths, refusal}
 use Rattle.loader.specs.Answer.{statusOf, answerBytes}
 use Rattle.loader.specs.Handle.{Core, Reply, nothing, replied, Handled, handle}
 use Rattle.loader.specs.declared.Loader.{Loader}
@@ -55,22 +55,22 @@ refusing n r packet answer flash words =
     record { told = refused n; loader = r; packet = packet; answer = answer; flash = flash; words = words }
 
 -- "On both lines what is sent, framed, fills the front of answer room; the rest, or all of it without an answer, stays."
-unfoldable pub answerRoom : Reply → List ℕ → List ℕ
-answerRoom nothing room = room
-answerRoom (replied c e v note) room = lay room 0 (framed (answerBytes c e v))
+unfoldable pub answerBuffer : Reply → List ℕ → List ℕ
+answerBuffer nothing buffer = buffer
+answerBuffer (replied c e v note) buffer = lay buffer 0 (framed (answerBytes c e v))
 
 unfoldable pub toldOf : ℕ → Reply → Told
 toldOf stored nothing = dropped stored
 toldOf stored (replied c e v note) = answered stored c (statusOf e) e (length (framed (answerBytes c e v))) note
 
 -- a call that closed a packet, which was handled
-unfoldable pub closing : Line → ℕ → Handled → List ℕ → List ℕ → Step
-closing l stored h packet room =
+unfoldable pub afterPacket : Line → ℕ → Handled → List ℕ → List ℕ → Step
+afterPacket l stored h packet buffer =
     record {
       told = toldOf stored (h .reply);
       loader = record { line = l; session = h .core .session; attach = h .core .attach };
       packet = packet;
-      answer = answerRoom (h .reply) room;
+      answer = answerBuffer (h .reply) buffer;
       flash = h .core .flash;
       words = h .core .words;
     }
@@ -90,27 +90,27 @@ afterByte Open l r packet answer flash words =
       words = words;
     }
 afterByte (Whole n) l r packet answer flash words =
-    closing l n (handle (coreOf r flash words) (header (some (take n packet)))) packet answer
+    afterPacket l n (handle (coreOf r flash words) (header (some (take n packet)))) packet answer
 afterByte (Broken n) l r packet answer flash words =
-    closing l n (handle (coreOf r flash words) (header none)) packet answer
+    afterPacket l n (handle (coreOf r flash words) (header none)) packet answer
 
 -- the lengths of what a call lends
-abbrev pub roomsOf : List ℕ → List ℕ → List ℕ → List ℕ → Rooms
-roomsOf packet answer flash words =
+abbrev pub bufferLengths : List ℕ → List ℕ → List ℕ → List ℕ → BufferLengths
+bufferLengths packet answer flash words =
     record { packet = length packet; answer = length answer; flash = length flash; words = length words }
 
 unfoldable pub step : Loader → ℕ → List ℕ → List ℕ → List ℕ → List ℕ → Step
 step r b packet answer flash words =
-    cond (eqb (refusal r (roomsOf packet answer flash words)) 0)
+    cond (eqb (refusal r (bufferLengths packet answer flash words)) 0)
     (afterByte (stepOf (r .line) b packet .answer .closing) (stepOf (r .line) b packet .answer .line) r
-    (stepOf (r .line) b packet .room) answer flash words)
-    (refusing (refusal r (roomsOf packet answer flash words)) r packet answer flash words)
+    (stepOf (r .line) b packet .buffer) answer flash words)
+    (refusing (refusal r (bufferLengths packet answer flash words)) r packet answer flash words)
 
--- the call's answer, the record that it hands back and each lent room at exit are those of s
+-- the call's answer, the record that it hands back and each lent buffer at exit are those of s
 pub record Feeds (s : Step) (r : Fed) (packet answer flash words : List ℕ) : Type 0 where
   pub says : told (r .answer) ≡ s .told
   pub hands-back : r .loader ≡ s .loader
-  pub packet-room : packet ≡ s .packet
-  pub answer-room : answer ≡ s .answer
+  pub packet-buffer : packet ≡ s .packet
+  pub answer-buffer : answer ≡ s .answer
   pub in-flash : flash ≡ s .flash
   pub in-words : words ≡ s .words

@@ -5,9 +5,9 @@ use Prim.Native.Nat.{ℕ}
 use Rattle.framing.specs.Packets.{read}
 use Rattle.commands.specs.Header.{command}
 use Rattle.loader.specs.Errors.{errorOf}
-use Rattle.loader.specs.Handle.{Core, lent, handle, replied}
+use Rattle.loader.specs.Handle.{Core, lengths, handle, replied}
 use Rattle.loader.specs.Refusals.{refusal}
-use Rattle.loader.specs.Step.{refused, step, refusing, roomsOf}
+use Rattle.loader.specs.Step.{refused, step, refusing, bufferLengths}
 use Rattle.loader.specs.declared.Loader.{Loader}
 use Rattle.loader.specs.declared.Note.the-variants.{Nothing}
 
@@ -16,12 +16,12 @@ abbrev pub RefusedChangesNothing : Type 0
 RefusedChangesNothing =
     (r : Loader) (b : ℕ) (packet answer flash words : List ℕ) (n : ℕ)
     → step r b packet answer flash words .told ≡ refused n
-    → (n ≡ refusal r (roomsOf packet answer flash words))
+    → (n ≡ refusal r (bufferLengths packet answer flash words))
     × (step r b packet answer flash words ≡ refusing n r packet answer flash words)
 
 -- "A bad command gets its own error byte and changes no flash, no memory word and no session."
 abbrev pub FailedChangesNothing : Type 0
 FailedChangesNothing =
-    (c : Core) (p : List ℕ) → (errorOf (lent c) (c .session) p ≡ 0 → ⊥)
-    → (handle c (read p) .reply ≡ replied (command p) (errorOf (lent c) (c .session) p) 0 Nothing)
+    (c : Core) (p : List ℕ) → (errorOf (lengths c) (c .session) p ≡ 0 → ⊥)
+    → (handle c (read p) .reply ≡ replied (command p) (errorOf (lengths c) (c .session) p) 0 Nothing)
     × (handle c (read p) .core ≡ c)

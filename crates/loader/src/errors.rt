@@ -4,10 +4,10 @@ use crate::sessions::accepted_by;
 use crate::sessions::announced_by;
 use crate::sessions::flash_open;
 use crate::sessions::memory_open;
-use commands::Lent;
-use rooms::check;
+use commands::Lengths;
+use lists::check;
 ghost use mathlib.Core.Path.{_≡_};
-ghost use Rattle.rooms.specs.Checks.{first};
+ghost use Rattle.lists.specs.Checks.{first};
 ghost use Rattle.loader.specs.Errors.{plainChecks, dataChecks, endChecks, errorOf};
 
 fn plain_error(shaped: bool, ruled: bool) -> u8
@@ -58,14 +58,14 @@ fn end_error(shaped: bool, is_open: bool, ruled: bool, session: Session) -> u8
     )
 }
 
-pub fn error_of(lent: Lent, session: Session, packet: &[u8]) -> u8
-    ensures { λ r. ⌜ r ≡ errorOf lent session (now (packet .entry)) ⌝ }
+pub fn error_of(lengths: Lengths, session: Session, packet: &[u8]) -> u8
+    ensures { λ r. ⌜ r ≡ errorOf lengths session (now (packet .entry)) ⌝ }
 {
     let command = commands::command_of(packet);
     match command {
         0x02 => plain_error(
             commands::shape_good(packet, 16),
-            commands::flash_good(lent, commands::begin_of(packet)),
+            commands::flash_good(lengths, commands::begin_of(packet)),
         ),
         0x03 => data_error(flash_open(session), session, packet),
         0x04 => end_error(
@@ -76,12 +76,12 @@ pub fn error_of(lent: Lent, session: Session, packet: &[u8]) -> u8
         ),
         0x05 => plain_error(
             commands::shape_good(packet, 16),
-            commands::memory_good(lent, commands::begin_of(packet)),
+            commands::memory_good(lengths, commands::begin_of(packet)),
         ),
         0x06 => end_error(
             commands::shape_good(packet, 8),
             memory_open(session),
-            commands::memory_end_good(lent, packet),
+            commands::memory_end_good(lengths, packet),
             session,
         ),
         0x07 => data_error(memory_open(session), session, packet),
@@ -91,11 +91,11 @@ pub fn error_of(lent: Lent, session: Session, packet: &[u8]) -> u8
         ),
         0x09 => plain_error(
             commands::shape_good(packet, 16),
-            commands::write_good(lent, packet),
+            commands::write_good(lengths, packet),
         ),
         0x0A => plain_error(
             commands::shape_good(packet, 4),
-            commands::register_good(lent, fields::word_at(packet, 8)),
+            commands::register_good(lengths, fields::word_at(packet, 8)),
         ),
         0x0D => plain_error(
             commands::shape_good(packet, 4),

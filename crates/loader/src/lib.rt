@@ -5,7 +5,7 @@ mod refusals;
 mod sessions;
 
 use commands::Begin;
-use commands::Lent;
+use commands::Lengths;
 use errors::error_of;
 use framing::Closing;
 use framing::Framed;
@@ -20,7 +20,7 @@ ghost use mathlib.Core.Path.{_≡_};
 ghost use mathlib.Core.Option.{some};
 ghost use Prim.Native.Nat.{_+_, _-_, _*_, _^_, _≤_, _<_};
 ghost use lib.ListN.{length, replicate};
-ghost use Rattle.rooms.specs.Lay.{lay};
+ghost use Rattle.lists.specs.Lay.{lay};
 ghost use Rattle.fields.specs.Words.{word};
 ghost use Rattle.framing.specs.Packets.{header};
 ghost use Rattle.commands.specs.Header.{command};
@@ -67,7 +67,7 @@ pub enum Answer {
     Dropped {
         stored: usize,
     },
-    // a packet is closed, read and answered: `sent` bytes stand at the front of the answer room
+    // a packet is closed, read and answered: `sent` bytes stand at the front of the answer buffer
     Answered {
         stored: usize,
         command: u8,
@@ -282,7 +282,7 @@ pub fn status_of(error: u8) -> u8
     1
 }
 
-// The answer of ten bytes, framed, at the front of the answer room; how many bytes were written.
+// The answer of ten bytes, framed, at the front of the answer buffer; how many bytes were written.
 fn reply(command: u8, error: u8, value: u32, answer: &mut [u8]) -> usize
     requires { ⌜ 22 ≤ length (now answer) ⌝ }
     ensures { λ r. ⌜ Replies (answerBytes command error value) (now (answer .entry)) r (now (answer .exit)) ⌝ }
@@ -315,11 +315,11 @@ fn act(loader: Loader, packet: &[u8], answer: &mut [u8], flash: &mut [u8], words
             loader,
         };
     };
-    let lent = Lent {
+    let lengths = Lengths {
         flash: flash.len(),
         words: words.len(),
     };
-    let error = error_of(lent, session, packet);
+    let error = error_of(lengths, session, packet);
     if error != 0 {
         let sent = reply(command, error, 0, answer);
         return Fed {

@@ -1,8 +1,8 @@
 // Refusals 1 to 5.
 use crate::Loader;
 use crate::sessions::session_good;
-use commands::Lent;
-use rooms::check;
+use commands::Lengths;
+use lists::check;
 ghost use mathlib.Core.Path.{_≡_};
 ghost use Rattle.loader.specs.Refusals.{flashLength, wordCount, recordGood, refusal};
 
@@ -18,19 +18,19 @@ fn word_count_good(n: usize) -> bool
     (1 <= n) & (n <= 16384)
 }
 
-fn record_good(lent: Lent, loader: Loader) -> bool
-    ensures { λ r. ⌜ r ≡ recordGood lent loader ⌝ }
+fn record_good(lengths: Lengths, loader: Loader) -> bool
+    ensures { λ r. ⌜ r ≡ recordGood lengths loader ⌝ }
 {
     let line = loader.line;
     let session = loader.session;
-    (line.held <= 4120) & (session_good(lent, session) & fields::attach_good(loader.attach))
+    (line.held <= 4120) & (session_good(lengths, session) & fields::attach_good(loader.attach))
 }
 
-// The number that a call is refused with, by its record and the lengths of its rooms; 0 where it is not.
+// The number that a call is refused with, by its record and the lengths of its buffers; 0 where it is not.
 pub fn refusal_of(loader: Loader, packet: usize, answer: usize, flash: usize, words: usize) -> u8
     ensures { λ r. ⌜ r ≡ refusal loader (record { packet = packet; answer = answer; flash = flash; words = words }) ⌝ }
 {
-    let lent = Lent { flash, words };
+    let lengths = Lengths { flash, words };
     check(
         4120 <= packet,
         1,
@@ -43,7 +43,7 @@ pub fn refusal_of(loader: Loader, packet: usize, answer: usize, flash: usize, wo
                 check(
                     word_count_good(words),
                     4,
-                    check(record_good(lent, loader), 5, 0),
+                    check(record_good(lengths, loader), 5, 0),
                 ),
             ),
         ),

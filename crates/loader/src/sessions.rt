@@ -1,7 +1,7 @@
 // What the open session says.
 use crate::Session;
 use commands::Begin;
-use commands::Lent;
+use commands::Lengths;
 ghost use mathlib.Core.Path.{_≡_};
 ghost use Rattle.loader.specs.Session.{flashOpen, memoryOpen, announced, accepted, sessionGood};
 
@@ -51,12 +51,12 @@ pub fn accepted_by(session: Session) -> u32
 }
 
 // Whether refusal 5 finds nothing wrong with a session, for the lengths lent.
-pub fn session_good(lent: Lent, session: Session) -> bool
-    ensures { λ r. ⌜ r ≡ sessionGood lent session ⌝ }
+pub fn session_good(lengths: Lengths, session: Session) -> bool
+    ensures { λ r. ⌜ r ≡ sessionGood lengths session ⌝ }
 {
     match session {
         Session::Closed => true,
-        Session::Flash(begin, k) => commands::flash_good(lent, begin) & (k <= begin.count),
-        Session::Memory(begin, k) => commands::memory_good(lent, begin) & (k <= begin.count),
+        Session::Flash(begin, k) => commands::flash_good(lengths, begin) & (k <= begin.count),
+        Session::Memory(begin, k) => commands::memory_good(lengths, begin) & (k <= begin.count),
     }
 }

@@ -7,8 +7,8 @@ use native.Mathlib.Omega.{arith}
 use lib.Dec.{ltb}
 use lib.ListN.{length, set, length-append}
 use borrow.Author.Tests.{lt-ltb, le-ltb}
-use Rattle.rooms.specs.Lay.{lay}
-use Rattle.rooms.proofs.Laws.{set-lay, lay-more}
+use Rattle.lists.specs.Lay.{lay}
+use Rattle.lists.proofs.Laws.{set-lay, lay-more}
 use Rattle.report.specs.Numbers.{digits, decimal}
 
 digits-same : (k j n : ℕ) → n ≤ k → n ≤ j → digits k n ≡ digits j n
@@ -56,9 +56,9 @@ decimal-fits n h = rw (digits-enough 19 n n (omega arith) (omega arith)) (digits
 pub length-long : (n : ℕ) → 10 ≤ n → length (decimal n) ≡ length (decimal (n / 10)) + 1
 length-long n h = rw (decimal-long n h) (simp length-append)
 
-module _ (room : List ℕ) (at n : ℕ) where
-  pub put-one : n < 10 → at + length (decimal n) ≤ length room → set room at (48 + n) ≡ lay room at (decimal n)
-  put-one h g = rw (decimal-short n h) (set-lay room at (48 + n) (omega (arith, ap length (decimal-short n h))))
+module _ (buffer : List ℕ) (at n : ℕ) where
+  pub put-one : n < 10 → at + length (decimal n) ≤ length buffer → set buffer at (48 + n) ≡ lay buffer at (decimal n)
+  put-one h g = rw (decimal-short n h) (set-lay buffer at (48 + n) (omega (arith, ap length (decimal-short n h))))
 
-  pub put-last : 10 ≤ n → at + length (decimal n) ≤ length room → set (lay room at (decimal (n / 10))) (at + length (decimal (n / 10))) (48 + n % 10) ≡ lay room at (decimal n)
-  put-last h g = rw (decimal-long n h) (lay-more room at (decimal (n / 10)) (48 + n % 10) (omega (arith, length-long n h)))
+  pub put-last : 10 ≤ n → at + length (decimal n) ≤ length buffer → set (lay buffer at (decimal (n / 10))) (at + length (decimal (n / 10))) (48 + n % 10) ≡ lay buffer at (decimal n)
+  put-last h g = rw (decimal-long n h) (lay-more buffer at (decimal (n / 10)) (48 + n % 10) (omega (arith, length-long n h)))

@@ -5,7 +5,7 @@ use mathlib.Core.List.{List, [], _∷_, _++_}
 use mathlib.Core.Bool.{cond}
 use lib.ListN.{length}
 use lib.Dec.{leb}
-use Rattle.rooms.specs.Lay.{lay}
+use Rattle.lists.specs.Lay.{lay}
 use Rattle.loader.specs.Step.{Told, refused, taken, dropped, answered}
 use Rattle.report.specs.Numbers.{hex2, decimal}
 
@@ -43,7 +43,7 @@ lineOf number (answered stored command status error sent note) =
 abbrev pub longestLine : ℕ
 longestLine = 30
 
--- a text laid behind the bytes of a room that are used, and how many are used then; where the room might not hold every line there, it is left as it is
-pub record Appends (text room : List ℕ) (used used-then : ℕ) (after : List ℕ) : Type 0 where
-  pub tells : used-then ≡ cond (leb (used + longestLine) (length room)) (used + length text) used
-  pub leaves : after ≡ cond (leb (used + longestLine) (length room)) (lay room used text) room
+-- a text laid behind the bytes of a buffer that are used, and how many are used then; where the buffer might not hold every line there, it is left as it is
+pub record Appends (text buffer : List ℕ) (used used-then : ℕ) (after : List ℕ) : Type 0 where
+  pub tells : used-then ≡ cond (leb (used + longestLine) (length buffer)) (used + length text) used
+  pub leaves : after ≡ cond (leb (used + longestLine) (length buffer)) (lay buffer used text) buffer

@@ -18,12 +18,12 @@ numberAfter taken number = number
 numberAfter (dropped stored) number = (number + 1) % 2 ^ 64
 numberAfter (answered stored command status error sent note) number = (number + 1) % 2 ^ 64
 
--- a call of the listing whose call of the loader comes to s: the loader's record and rooms are those of s, and the line of what s tells stands behind the used bytes of the text's room
-pub record Lists (s : Step) (number : ℕ) (room : List ℕ) (used : ℕ) (r : Listed) (packet answer flash words text : List ℕ) : Type 0 where
+-- a call of the listing whose call of the loader comes to s: the loader's record and buffers are those of s, and the line of what s tells stands behind the used bytes of the text's buffer
+pub record Lists (s : Step) (number : ℕ) (buffer : List ℕ) (used : ℕ) (r : Listed) (packet answer flash words text : List ℕ) : Type 0 where
   pub hands-back : r .listing .loader ≡ s .loader
   pub counts : r .listing .number ≡ numberAfter (s .told) number
-  pub appends : Appends (lineOf number (s .told)) room used (r .used) text
-  pub packet-room : packet ≡ s .packet
-  pub answer-room : answer ≡ s .answer
+  pub appends : Appends (lineOf number (s .told)) buffer used (r .used) text
+  pub packet-buffer : packet ≡ s .packet
+  pub answer-buffer : answer ≡ s .answer
   pub in-flash : flash ≡ s .flash
   pub in-words : words ≡ s .words

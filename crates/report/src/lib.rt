@@ -6,7 +6,7 @@ ghost use mathlib.Core.Path.{_≡_};
 ghost use mathlib.Core.List.{_++_};
 ghost use Prim.Native.Nat.{_+_, _≤_, _<_};
 ghost use lib.ListN.{length};
-ghost use Rattle.rooms.specs.Lay.{lay};
+ghost use Rattle.lists.specs.Lay.{lay};
 ghost use Rattle.loader.specs.Answer.{statusOf};
 ghost use Rattle.loader.specs.Step.{told, step};
 ghost use Rattle.report.specs.Numbers.{hexDigit, hex2, decimal};
@@ -14,7 +14,7 @@ ghost use Rattle.report.specs.Lines.{heading as Lines·heading};
 ghost use Rattle.report.specs.Lines.{fieldsOf, dashes, lineOf, Appends};
 ghost use Rattle.report.specs.Listing.{freshListing, numberAfter, Lists};
 
-// The room that holds every line: a number of 20 digits, and 10 bytes.
+// The buffer that holds every line: a number of 20 digits, and 10 bytes.
 pub const LONGEST_LINE: usize = 30;
 
 const TAB: u8 = b'\t';
@@ -36,7 +36,7 @@ pub struct Listing {
     pub number: u64,
 }
 
-// The next state, and how many bytes of the text's room are used.
+// The next state, and how many bytes of the text's buffer are used.
 pub struct Listed {
     pub listing: Listing,
     pub used: usize,
@@ -67,16 +67,16 @@ fn decimal_digit(d: u64) -> u8
 }
 
 // A number in decimal from `at` on; the next place.
-fn put_decimal(number: u64, room: &mut [u8], at: usize) -> usize
-    requires { ⌜ at + length (decimal number) ≤ length (now room) ⌝ }
-    ensures { λ r. ⌜ (r ≡ at + length (decimal number)) × (now (room .exit) ≡ lay (now (room .entry)) at (decimal number)) ⌝ }
+fn put_decimal(number: u64, buffer: &mut [u8], at: usize) -> usize
+    requires { ⌜ at + length (decimal number) ≤ length (now buffer) ⌝ }
+    ensures { λ r. ⌜ (r ≡ at + length (decimal number)) × (now (buffer .exit) ≡ lay (now (buffer .entry)) at (decimal number)) ⌝ }
 {
     if number < 10 {
-        room[at] = decimal_digit(number);
+        buffer[at] = decimal_digit(number);
         return at + 1;
     }
-    let last = put_decimal(number / 10, room, at);
-    room[last] = decimal_digit(number % 10);
+    let last = put_decimal(number / 10, buffer, at);
+    buffer[last] = decimal_digit(number % 10);
     last + 1
 }
 
@@ -106,37 +106,37 @@ fn dropped_fields() -> RowFields
     [TAB, DASH, DASH, TAB, DASH, DASH, TAB, DASH, DASH, LINE_FEED]
 }
 
-fn copy_at(room: &mut [u8], at: usize, text: &[u8])
-    requires { ⌜ at + length (now text) ≤ length (now room) ⌝ }
-    ensures { λ r. ⌜ now (room .exit) ≡ lay (now (room .entry)) at (now (text .entry)) ⌝ }
+fn copy_at(buffer: &mut [u8], at: usize, text: &[u8])
+    requires { ⌜ at + length (now text) ≤ length (now buffer) ⌝ }
+    ensures { λ r. ⌜ now (buffer .exit) ≡ lay (now (buffer .entry)) at (now (text .entry)) ⌝ }
 {
     let mut i: usize = 0;
     while i < text.len() {
-        room[at + i] = text[i];
+        buffer[at + i] = text[i];
         i += 1;
     }
 }
 
-// A line of a number and the fields behind it, from `used` on, where the room has the space; how many bytes are used then.
-fn write_row(number: u64, fields: &[u8], room: &mut [u8], used: usize) -> usize
-    requires { ⌜ used + (length (decimal number) + length (now fields)) ≤ length (now room) ⌝ }
+// A line of a number and the fields behind it, from `used` on, where the buffer has the space; how many bytes are used then.
+fn write_row(number: u64, fields: &[u8], buffer: &mut [u8], used: usize) -> usize
+    requires { ⌜ used + (length (decimal number) + length (now fields)) ≤ length (now buffer) ⌝ }
     ensures { λ r. ⌜ (r ≡ used + length (decimal number ++ now (fields .entry)))
-        × (now (room .exit) ≡ lay (now (room .entry)) used (decimal number ++ now (fields .entry))) ⌝ }
+        × (now (buffer .exit) ≡ lay (now (buffer .entry)) used (decimal number ++ now (fields .entry))) ⌝ }
 {
-    let at = put_decimal(number, room, used);
-    copy_at(room, at, fields);
+    let at = put_decimal(number, buffer, used);
+    copy_at(buffer, at, fields);
     at + fields.len()
 }
 
-// The line of a call of the loader, behind the used bytes of a room; how many are used then. Where fewer than 30 bytes are
+// The line of a call of the loader, behind the used bytes of a buffer; how many are used then. Where fewer than 30 bytes are
 // left, nothing is written.
-pub fn line(number: u64, answer: Answer, room: &mut [u8], used: usize) -> usize
-    ensures { λ r. ⌜ Appends (lineOf number (told answer)) (now (room .entry)) used r (now (room .exit)) ⌝ }
+pub fn line(number: u64, answer: Answer, buffer: &mut [u8], used: usize) -> usize
+    ensures { λ r. ⌜ Appends (lineOf number (told answer)) (now (buffer .entry)) used r (now (buffer .exit)) ⌝ }
 {
-    if room.len() < LONGEST_LINE {
+    if buffer.len() < LONGEST_LINE {
         return used;
     }
-    if room.len() - LONGEST_LINE < used {
+    if buffer.len() - LONGEST_LINE < used {
         return used;
     }
     match answer {
@@ -144,7 +144,7 @@ pub fn line(number: u64, answer: Answer, room: &mut [u8], used: usize) -> usize
         Answer::Taken => used,
         Answer::Dropped { stored: _ } => {
             let fields = dropped_fields();
-            write_row(number, &fields, room, used)
+            write_row(number, &fields, buffer, used)
         }
         Answer::Answered {
             stored: _,
@@ -154,7 +154,7 @@ pub fn line(number: u64, answer: Answer, room: &mut [u8], used: usize) -> usize
             note: _,
         } => {
             let fields = read_fields(command, error);
-            write_row(number, &fields, room, used)
+            write_row(number, &fields, buffer, used)
         }
     }
 }

@@ -59,7 +59,7 @@ pub fn short_sync() {
 
 // 0xFF where all of some bytes are.
 fn erased(bytes: &[u8]) -> u8 {
-    if rooms::all_from(bytes, 0, 0xFF) {
+    if lists::all_from(bytes, 0, 0xFF) {
         0xFF
     } else {
         0

@@ -140,12 +140,12 @@ fn send(
 }
 
 // A run of bytes set to one value.
-fn fill(room: &mut [u8], from: usize, upto: usize, value: u8)
-    requires { ⌜ (from ≤ upto) × (upto ≤ length (now room)) ⌝ }
+fn fill(buffer: &mut [u8], from: usize, upto: usize, value: u8)
+    requires { ⌜ (from ≤ upto) × (upto ≤ length (now buffer)) ⌝ }
 {
     let mut i = from;
     while i < upto {
-        room[i] = value;
+        buffer[i] = value;
         i += 1;
     }
 }

@@ -65,14 +65,14 @@ fn phase_of(link: Link) -> u8 {
 }
 
 // Bytes heard at one tick, up to the one that shows an error.
-fn hear(link: Link, line: &[u8], tick: u32, room: &mut [u8]) -> Heard {
+fn hear(link: Link, line: &[u8], tick: u32, buffer: &mut [u8]) -> Heard {
     let mut state = link;
     let mut event: u8 = NOTHING;
     let mut count: usize = 0;
     let mut sent: usize = 0;
     let mut i: usize = 0;
     while i < line.len() {
-        let next = link::byte(state, line[i], tick, room);
+        let next = link::byte(state, line[i], tick, buffer);
         state = next.link;
         let told = next.told;
         let said = told.event;
@@ -100,25 +100,25 @@ fn hear(link: Link, line: &[u8], tick: u32, room: &mut [u8]) -> Heard {
 }
 
 // A link that was pulled at a tick.
-fn pulled(tick: u32, room: &mut [u8]) -> Link {
-    let next = link::pull(link::new(), tick, room);
+fn pulled(tick: u32, buffer: &mut [u8]) -> Link {
+    let next = link::pull(link::new(), tick, buffer);
     next.link
 }
 
 // A link in Open at 115200, out of dead time, with RPC open, at tick 30.
-fn ready(room: &mut [u8]) -> Link {
-    let begun = pulled(0, room);
-    let opened = hear(begun, b"\x03\x00\xC2\x01\x00\xC0", 0, room);
+fn ready(buffer: &mut [u8]) -> Link {
+    let begun = pulled(0, buffer);
+    let opened = hear(begun, b"\x03\x00\xC2\x01\x00\xC0", 0, buffer);
     let link = opened.link;
-    let started = hear(link, b"\x04\x00\x04", 30, room);
+    let started = hear(link, b"\x04\x00\x04", 30, buffer);
     started.link
 }
 
 // Case 11: a baud frame, heard by a link that was pulled.
 pub fn baud_frame() {
-    let mut room = [0u8; 67];
-    let begun = pulled(0, &mut room);
-    let heard = hear(begun, b"\x03\x00\xC2\x01\x00\xC0", 0, &mut room);
+    let mut buffer = [0u8; 67];
+    let begun = pulled(0, &mut buffer);
+    let heard = hear(begun, b"\x03\x00\xC2\x01\x00\xC0", 0, &mut buffer);
     let link = heard.link;
     compared_byte(
         b"case 11",
@@ -127,34 +127,34 @@ pub fn baud_frame() {
         heard.event,
     );
     compared_word(b"case 11", b"rate", 115200, link.rate);
-    let n = within(heard.sent, &room);
-    compared(b"case 11", b"answer", b"\x02\x00\x02", &room[..n]);
+    let n = within(heard.sent, &buffer);
+    compared(b"case 11", b"answer", b"\x02\x00\x02", &buffer[..n]);
 }
 
 // Case 12: data 48 49, sent.
 pub fn data_frame() {
-    let mut room = [0u8; 67];
-    let link = ready(&mut room);
-    let next = link::send(link, b"\x48\x49", 30, &mut room);
+    let mut buffer = [0u8; 67];
+    let link = ready(&mut buffer);
+    let next = link::send(link, b"\x48\x49", 30, &mut buffer);
     let told = next.told;
-    let n = within(told.sent, &room);
+    let n = within(told.sent, &buffer);
     compared(
         b"case 12",
         b"frame of data 48 49",
         b"\x05\x02\x48\x49\x06",
-        &room[..n],
+        &buffer[..n],
     );
 }
 
 // Case 13: a data frame of 64 bytes is read; the size 65 is an error at its own byte.
 pub fn longest_data() {
-    let mut room = [0u8; 67];
-    let link = ready(&mut room);
+    let mut buffer = [0u8; 67];
+    let link = ready(&mut buffer);
     let heard = hear(
         link,
         b"\x05\x40UUUUUUUUUUUUUUUUUUUUUUUUUUUUUUUUUUUUUUUUUUUUUUUUUUUUUUUUUUUUUUUU\x45",
         30,
-        &mut room,
+        &mut buffer,
     );
     compared_byte(b"case 13", b"event of size 64", HANDED, heard.event);
     compared_word(
@@ -167,7 +167,7 @@ pub fn longest_data() {
         link,
         b"\x05\x41UUUUUUUUUUUUUUUUUUUUUUUUUUUUUUUUUUUUUUUUUUUUUUUUUUUUUUUUUUUUUUUUU\x44",
         30,
-        &mut room,
+        &mut buffer,
     );
     compared_byte(b"case 13", b"event of size 65", WRONG, wrong.event);
     compared_word(
@@ -180,10 +180,10 @@ pub fn longest_data() {
 
 // Case 14: a link whose last activity was at FFFFFFFF, polled 249 ms and 250 ms later.
 pub fn silence() {
-    let mut room = [0u8; 67];
-    let begun = pulled(0xFFFFFFFF, &mut room);
-    let alive = link::poll(begun, 0x000000F8, &mut room);
-    let gone = link::poll(begun, 0x000000F9, &mut room);
+    let mut buffer = [0u8; 67];
+    let begun = pulled(0xFFFFFFFF, &mut buffer);
+    let alive = link::poll(begun, 0x000000F8, &mut buffer);
+    let gone = link::poll(begun, 0x000000F9, &mut buffer);
     compared_byte(b"case 14", b"phase at F8", 0x01, phase_of(alive.link));
     compared_byte(b"case 14", b"phase at F9", 0x00, phase_of(gone.link));
 }

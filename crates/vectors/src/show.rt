@@ -22,7 +22,7 @@ pub fn compared(source: &[u8], name: &[u8], expected: &[u8], got: &[u8]) {
     io::write_all(STDOUT_FILENO, name);
     io::write_all(STDOUT_FILENO, b"\t");
     print_hex(expected);
-    if rooms::same(expected, got) {
+    if lists::same(expected, got) {
         io::write_all(STDOUT_FILENO, b"\tok\n");
     } else {
         io::write_all(STDOUT_FILENO, b"\tWRONG\n");
@@ -49,22 +49,22 @@ pub fn compared_byte(source: &[u8], name: &[u8], expected: u8, got: u8) {
     compared(source, name, &e, &g);
 }
 
-// A length that was told, as a number of a room's bytes: 0 where it is past the room.
-pub fn within(told: usize, room: &[u8]) -> usize
-    ensures { λ r. ⌜ (r ≤ length (now (room .entry))) × (r ≡ length (take r (now (room .entry)))) ⌝ }
+// A length that was told, as a number of a buffer's bytes: 0 where it is past the buffer.
+pub fn within(told: usize, buffer: &[u8]) -> usize
+    ensures { λ r. ⌜ (r ≤ length (now (buffer .entry))) × (r ≡ length (take r (now (buffer .entry)))) ⌝ }
 {
-    if told <= room.len() { told } else { 0 }
+    if told <= buffer.len() { told } else { 0 }
 }
 
 // A packet framed.
 pub fn framed(source: &[u8], name: &[u8], packet: &[u8], expected: &[u8]) {
-    let mut room = [0u8; 64];
-    let Framed::Written(n) = framing::frame(packet, &mut room) else {
+    let mut buffer = [0u8; 64];
+    let Framed::Written(n) = framing::frame(packet, &mut buffer) else {
         compared(source, name, expected, b"");
         return;
     };
-    let k = within(n, &room);
-    compared(source, name, expected, &room[..k]);
+    let k = within(n, &buffer);
+    compared(source, name, expected, &buffer[..k]);
 }
 
 // How many bytes a whole packet has that a byte closes.
@@ -77,12 +77,12 @@ fn whole(closing: Closing) -> usize {
 }
 
 // Takes a run of line bytes; how many bytes the packet has that the last of them closes.
-fn unframe(line: &[u8], room: &mut [u8]) -> usize {
+fn unframe(line: &[u8], buffer: &mut [u8]) -> usize {
     let mut state = framing::new();
     let mut closing = Closing::Open;
     let mut i: usize = 0;
     while i < line.len() {
-        let stepped = framing::step(state, line[i], room);
+        let stepped = framing::step(state, line[i], buffer);
         state = stepped.line;
         closing = stepped.closing;
         i += 1;
@@ -92,8 +92,8 @@ fn unframe(line: &[u8], room: &mut [u8]) -> usize {
 
 // The packet of a run of line bytes.
 pub fn unframed(source: &[u8], name: &[u8], line: &[u8], expected: &[u8]) {
-    let mut room = [0u8; 64];
-    let n = unframe(line, &mut room);
-    let k = within(n, &room);
-    compared(source, name, expected, &room[..k]);
+    let mut buffer = [0u8; 64];
+    let n = unframe(line, &mut buffer);
+    let k = within(n, &buffer);
+    compared(source, name, expected, &buffer[..k]);
 }

@@ -11,7 +11,7 @@ same-length c = search needs
 
 returns : tie.Need-returns
 unfolding done
-returns c = rw (c .before .before .write-reply .ensures .count, c .before .before .write-reply .ensures .room)
+returns c = rw (c .before .before .write-reply .ensures .count, c .before .before .write-reply .ensures .buffer)
 
 pub answer-spec : {M : Type 1} → statement M
 answer-spec = tie.close (tie.spec write-reply-requires same-length returns)

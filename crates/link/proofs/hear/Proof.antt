@@ -5,7 +5,7 @@ use native.Mathlib.Omega.{arith}
 use lib.Seq.{length-take-le}
 use lib.ListN.{length}
 use borrow.Author.Needs.{needs}
-use Rattle.link.proofs.Ways.{lacks-bounds, room-left, heard-whole, heard-damaged, heard-more, heard-wrong}
+use Rattle.link.proofs.Ways.{lacks-bounds, space-left, heard-whole, heard-damaged, heard-more, heard-wrong}
 use Rattle.link.proofs.hear.Statement.{statement}
 use Rattle.link.proofs.hear.Tie as tie
 
@@ -43,7 +43,7 @@ returns-2 : tie.Need-returns-2
 returns-2 c = c .break-off .ensures ∙ sym (heard-damaged (c .before .before .before .before .before .before .before .args .link) _ (frame-length (c .before .before .before .before .before .before .before)) (c .before .before .before .before .before .before .before .pre) _ (sym (c .before .before .before .before .before .lacks-sum .ensures) ∙ c .before .before .before .before .if1 .taken) (λ e. c .before .if2 .left (e ∙ sym (c .before .before .xor-from .ensures))))
 
 keep-requires : tie.Need-keep-requires
-keep-requires c κs = room-left (c .before .before .before .args .link) (c .before .before .before .args .tick) (frame-length (c .before .before .before)) (c .before .before .before .pre) (c .before .before .before .args .byte) (sym (c .before .lacks-sum .ensures) ∙ c .if1 .left)
+keep-requires c κs = space-left (c .before .before .before .args .link) (c .before .before .before .args .tick) (frame-length (c .before .before .before)) (c .before .before .before .pre) (c .before .before .before .args .byte) (sym (c .before .lacks-sum .ensures) ∙ c .if1 .left)
 
 array-read-is-begun : tie.Need-array-read-is-begun
 array-read-is-begun c = search needs

@@ -1,4 +1,4 @@
--- The number 0 says that the record is sound and the room wide enough.
+-- The number 0 says that the record is sound and the buffer wide enough.
 use mathlib.Core.Path.{sym, ap, _∙_}
 use borrow.Author.Needs.{needs}
 use Rattle.link.specs.declared.Link.{Link}

@@ -1,4 +1,4 @@
--- The number 0 says that the data and the room fit; the record is that after the checks, with data outstanding.
+-- The number 0 says that the data and the buffer fit; the record is that after the checks, with data outstanding.
 use mathlib.Core.Path.{sym, ap, _∙_}
 use mathlib.Core.Bool.{true}
 use borrow.Author.Needs.{needs}
@@ -28,7 +28,7 @@ same-length c = search needs
 
 returns : tie.Need-returns
 unfolding sendStep done padded
-returns c = rw (c .before .before .write-data .ensures .count, c .before .before .write-data .ensures .room) (call-taken _ _ (rw (c .before .before .before .before .before .before .before .after-checks .ensures) at (c .before .before .before .before .before .before .judge-send .ensures)) (c .before .before .before .before .before .before .before .before .before .before .args .link) (c .before .before .before .before .before .before .before .before .before .before .args .room .now) (c .before .before .before .before .is-lost .result) _ (answers (withOutstanding (c .before .before .before .before .before .before .before .after-checks .result) true) (dataFrame (c .before .before .before .before .before .before .before .before .before .before .args .bytes .now))) _ (c .before .before .before .before .before .if1 .taken) (c .before .before .before .before .is-lost .ensures) (ap (λ (l : Link). answers (withOutstanding l true) (dataFrame (c .before .before .before .before .before .before .before .before .before .before .args .bytes .now))) (c .before .before .before .before .before .before .before .after-checks .ensures)))
+returns c = rw (c .before .before .write-data .ensures .count, c .before .before .write-data .ensures .buffer) (call-taken _ _ (rw (c .before .before .before .before .before .before .before .after-checks .ensures) at (c .before .before .before .before .before .before .judge-send .ensures)) (c .before .before .before .before .before .before .before .before .before .before .args .link) (c .before .before .before .before .before .before .before .before .before .before .args .buffer .now) (c .before .before .before .before .is-lost .result) _ (answers (withOutstanding (c .before .before .before .before .before .before .before .after-checks .result) true) (dataFrame (c .before .before .before .before .before .before .before .before .before .before .args .bytes .now))) _ (c .before .before .before .before .before .if1 .taken) (c .before .before .before .before .is-lost .ensures) (ap (λ (l : Link). answers (withOutstanding l true) (dataFrame (c .before .before .before .before .before .before .before .before .before .before .args .bytes .now))) (c .before .before .before .before .before .before .before .after-checks .ensures)))
 
 refuse-requires : tie.Need-refuse-requires
 refuse-requires c κs = search needs

@@ -2,9 +2,9 @@ use mathlib.Core.Path.{refl, sym}
 use native.Mathlib.Omega.{arith}
 use lib.ListN.{length-set}
 use borrow.Author.Needs.{needs}
-use Rattle.rooms.proofs.Laws.{lay-nil, set-set-lay}
+use Rattle.lists.proofs.Laws.{lay-nil, set-set-lay}
 use Rattle.fields.specs.Checksum.{xored}
-use Rattle.link.specs.Frames.{framed}
+use Rattle.link.specs.Frames.{frameOf}
 use Rattle.link.proofs.Ways.{set-three}
 use Rattle.link.proofs.write_reply.Statement.{statement}
 use Rattle.link.proofs.write_reply.Tie as tie
@@ -15,40 +15,40 @@ enum-told c = search needs
 enum-told-2 : tie.Need-enum-told-2
 enum-told-2 c = search needs
 
-slice-write-room : tie.Need-slice-write-room
-slice-write-room c = search needs
+slice-write-buffer : tie.Need-slice-write-buffer
+slice-write-buffer c = search needs
 
-slice-write-room-2 : tie.Need-slice-write-room-2
-slice-write-room-2 c = simp length-set (omega arith)
+slice-write-buffer-2 : tie.Need-slice-write-buffer-2
+slice-write-buffer-2 c = simp length-set (omega arith)
 
 enum-known-answer : tie.Need-enum-known-answer
 enum-known-answer c = search needs
 
-slice-write-room-3 : tie.Need-slice-write-room-3
-slice-write-room-3 c = search needs
+slice-write-buffer-3 : tie.Need-slice-write-buffer-3
+slice-write-buffer-3 c = search needs
 
-slice-write-room-4 : tie.Need-slice-write-room-4
-slice-write-room-4 c = simp length-set (omega arith)
+slice-write-buffer-4 : tie.Need-slice-write-buffer-4
+slice-write-buffer-4 c = simp length-set (omega arith)
 
-slice-write-room-5 : tie.Need-slice-write-room-5
-slice-write-room-5 c = simp length-set (omega arith)
+slice-write-buffer-5 : tie.Need-slice-write-buffer-5
+slice-write-buffer-5 c = simp length-set (omega arith)
 
 returns : tie.Need-returns
-returns c = rw (c .enum-told .given .1) (record { count = refl; room = sym (lay-nil _ 0) })
+returns c = rw (c .enum-told .given .1) (record { count = refl; buffer = sym (lay-nil _ 0) })
 
 same-length : tie.Need-same-length
 same-length c = search needs
 
 returns-2 : tie.Need-returns-2
-unfolding framed xored
-returns-2 c = rw (c .enum-told2 .given .1) (record { count = refl; room = set-set-lay _ 0 1 1 (omega arith) })
+unfolding frameOf xored
+returns-2 c = rw (c .enum-told2 .given .1) (record { count = refl; buffer = set-set-lay _ 0 1 1 (omega arith) })
 
 same-length-2 : tie.Need-same-length-2
 same-length-2 c = search needs
 
 returns-3 : tie.Need-returns-3
-unfolding framed xored
-returns-3 c = rw (c .before .answer .given .1) (record { count = refl; room = set-three _ 2 _ _ (c .before .before .before .pre) })
+unfolding frameOf xored
+returns-3 c = rw (c .before .answer .given .1) (record { count = refl; buffer = set-three _ 2 _ _ (c .before .before .before .pre) })
 
 pub write-reply-spec : {M : Type 1} → statement M
 write-reply-spec =
@@ -56,12 +56,12 @@ write-reply-spec =
     (tie.spec
     enum-told
     enum-told-2
-    slice-write-room
-    slice-write-room-2
+    slice-write-buffer
+    slice-write-buffer-2
     enum-known-answer
-    slice-write-room-3
-    slice-write-room-4
-    slice-write-room-5
+    slice-write-buffer-3
+    slice-write-buffer-4
+    slice-write-buffer-5
     returns
     same-length
     returns-2

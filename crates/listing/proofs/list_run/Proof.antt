@@ -1,4 +1,4 @@
--- Loop: the lent rooms keep their lengths, and the text leaves space for a line.
+-- Loop: the lent buffers keep their lengths, and the text leaves space for a line.
 use Prim.Native.Nat.{_-_, _≤_}
 use mathlib.Core.Path.{_≡_, refl, sym, _∙_}
 use native.Mathlib.Omega.{arith}
@@ -15,7 +15,7 @@ Inv-loop input packet₀ answer₀ flash₀ words₀ text₀ used₀ state₀ i�
 abbrev μ-loop : tie.MeasureT-loop
 μ-loop input packet₀ answer₀ flash₀ words₀ text₀ used₀ state₀ i₀ packet answer flash words text used state i = length input - i
 
--- the text lies within its room
+-- the text lies within its buffer
 used-fits : (c : tie.After-feed Inv-loop μ-loop) → c .feed .result .used ≤ length (c .feed .last .1 .1 .1 .1 .1 .1 .0)
 used-fits c = omega (arith, appends-within _ _ _ _ _ (c .feed .ensures .appends) (c .feed .kept .1 .1 .1 .1 .1 .1 .0) (omega arith))
 

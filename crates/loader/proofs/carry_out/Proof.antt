@@ -51,7 +51,7 @@ accepted-by-requires-2 : tie.Need-accepted-by-requires-2
 accepted-by-requires-2 c κs = search needs
 
 write-words-requires : tie.Need-write-words-requires
-write-words-requires c κs = let r = memory-ready _ (c .before .before .before .before .before .before .before .before .args .session) (c .before .before .before .before .before .before .before .before .args .packet .now) _ (c .before .before .before .before .command-of .ensures) (c .before .before .before .before .before .before .before .before .pre .0) (c .before .before .before .before .before .before .before .before .pre .1 .good) (c .before .before .before .match .keys6) in rw (c .before .before .announced-by2 .ensures, c .before .accepted-by2 .ensures) (r .0 .start, r .0 .room, c .before .before .before .before .before .before .before .before .pre .1 .most-words, r .0 .block, r .1)
+write-words-requires c κs = let r = memory-ready _ (c .before .before .before .before .before .before .before .before .args .session) (c .before .before .before .before .before .before .before .before .args .packet .now) _ (c .before .before .before .before .command-of .ensures) (c .before .before .before .before .before .before .before .before .pre .0) (c .before .before .before .before .before .before .before .before .pre .1 .good) (c .before .before .before .match .keys6) in rw (c .before .before .announced-by2 .ensures, c .before .accepted-by2 .ensures) (r .0 .start, r .0 .within, c .before .before .before .before .before .before .before .before .pre .1 .most-words, r .0 .block, r .1)
 
 advanced-by-requires-2 : tie.Need-advanced-by-requires-2
 advanced-by-requires-2 c κs = let r = memory-ready _ (c .before .before .before .before .before .before .before .before .before .before .before .args .session) (c .before .before .before .before .before .before .before .before .before .before .before .args .packet .now) _ (c .before .before .before .before .before .before .before .command-of .ensures) (c .before .before .before .before .before .before .before .before .before .before .before .pre .0) (c .before .before .before .before .before .before .before .before .before .before .before .pre .1 .good) (c .before .before .before .before .before .before .match .keys6) in omega (arith, rw (← (c .before .before .before .before .before .announced-by2 .ensures)) at (r .1), c .before .before .before .before .before .announced-by2 .ok .1 .1 .0)

@@ -3,8 +3,8 @@ use mathlib.Core.Path.{_≡_, refl, sym}
 use native.Mathlib.Omega.{arith}
 use borrow.Author.Needs.{needs}
 use lib.ListN.{length, length-set}
-use Rattle.rooms.specs.Lay.{lay}
-use Rattle.rooms.proofs.Laws.{lay-nil}
+use Rattle.lists.specs.Lay.{lay}
+use Rattle.lists.proofs.Laws.{lay-nil}
 use Rattle.commands.specs.Block.{payload}
 use Rattle.loader.specs.Effects.{wordsOf}
 use Rattle.loader.proofs.Memory.{packed-next}

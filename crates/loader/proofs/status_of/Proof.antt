@@ -1,4 +1,4 @@
-use Rattle.rooms.proofs.Laws.{tests}
+use Rattle.lists.proofs.Laws.{tests}
 use Rattle.loader.proofs.status_of.Statement.{statement}
 use Rattle.loader.proofs.status_of.Tie as tie
 

@@ -32,13 +32,13 @@ put-decimal-decimal-digit-requires : (t : ℕ) → put-decimal-lts.Need-decimal-
 ) (put-decimal-at t) put-decimal.Post
 put-decimal-decimal-digit-requires t c κs = omega arith
 
-put-decimal-slice-write-room : (t : ℕ) → put-decimal-lts.Need-slice-write-room (
+put-decimal-slice-write-buffer : (t : ℕ) → put-decimal-lts.Need-slice-write-buffer (
   decimal-digit-reads.Asked,
   decimal-digit-reads.Learnt,
   put-decimal-below t,
   put-decimal.Post,
 ) (put-decimal-at t) put-decimal.Post
-put-decimal-slice-write-room t c = omega (arith, ap length (decimal-short (c .before .before .before .args .number) (c .before .if1 .taken)))
+put-decimal-slice-write-buffer t c = omega (arith, ap length (decimal-short (c .before .before .before .args .number) (c .before .if1 .taken)))
 
 put-decimal-add-result : (t : ℕ) → put-decimal-lts.Need-add-result (
   decimal-digit-reads.Asked,
@@ -62,7 +62,7 @@ put-decimal-returns : (t : ℕ) → put-decimal-lts.Need-returns (
   put-decimal-below t,
   put-decimal.Post,
 ) (put-decimal-at t) put-decimal.Post
-put-decimal-returns t c = (omega (arith, ap length (decimal-short (c .before .before .before .args .number) (c .before .if1 .taken))), rw (c .decimal-digit .ensures) (put-one (c .before .before .before .args .room .now) (c .before .before .before .args .at) (c .before .before .before .args .number) (c .before .if1 .taken) (c .before .before .before .pre .1)))
+put-decimal-returns t c = (omega (arith, ap length (decimal-short (c .before .before .before .args .number) (c .before .if1 .taken))), rw (c .decimal-digit .ensures) (put-one (c .before .before .before .args .buffer .now) (c .before .before .before .args .at) (c .before .before .before .args .number) (c .before .if1 .taken) (c .before .before .before .pre .1)))
 
 put-decimal-put-decimal-requires : (t : ℕ) → put-decimal-lts.Need-put-decimal-requires (
   decimal-digit-reads.Asked,
@@ -80,13 +80,13 @@ put-decimal-decimal-digit-requires-2 : (t : ℕ) → put-decimal-lts.Need-decima
 ) (put-decimal-at t) put-decimal.Post
 put-decimal-decimal-digit-requires-2 t c κs = omega arith
 
-put-decimal-slice-write-room-2 : (t : ℕ) → put-decimal-lts.Need-slice-write-room-2 (
+put-decimal-slice-write-buffer-2 : (t : ℕ) → put-decimal-lts.Need-slice-write-buffer-2 (
   decimal-digit-reads.Asked,
   decimal-digit-reads.Learnt,
   put-decimal-below t,
   put-decimal.Post,
 ) (put-decimal-at t) put-decimal.Post
-put-decimal-slice-write-room-2 t c = omega (arith, length-long (c .before .before .before .before .before .before .before .args .number) (c .before .before .before .before .before .if1 .left))
+put-decimal-slice-write-buffer-2 t c = omega (arith, length-long (c .before .before .before .before .before .before .before .args .number) (c .before .before .before .before .before .if1 .left))
 
 put-decimal-add-result-2 : (t : ℕ) → put-decimal-lts.Need-add-result-2 (
   decimal-digit-reads.Asked,
@@ -110,7 +110,7 @@ put-decimal-returns-2 : (t : ℕ) → put-decimal-lts.Need-returns-2 (
   put-decimal-below t,
   put-decimal.Post,
 ) (put-decimal-at t) put-decimal.Post
-put-decimal-returns-2 t c = (omega (arith, length-long (c .before .before .before .before .before .before .before .args .number) (c .before .before .before .before .before .if1 .left)), rw (c .decimal-digit2 .ensures, c .before .before .before .put-decimal .ensures .0, c .before .before .before .put-decimal .ensures .1) (put-last (c .before .before .before .before .before .before .before .args .room .now) (c .before .before .before .before .before .before .before .args .at) (c .before .before .before .before .before .before .before .args .number) (c .before .before .before .before .before .if1 .left) (c .before .before .before .before .before .before .before .pre .1)))
+put-decimal-returns-2 t c = (omega (arith, length-long (c .before .before .before .before .before .before .before .args .number) (c .before .before .before .before .before .if1 .left)), rw (c .decimal-digit2 .ensures, c .before .before .before .put-decimal .ensures .0, c .before .before .before .put-decimal .ensures .1) (put-last (c .before .before .before .before .before .before .before .args .buffer .now) (c .before .before .before .before .before .before .before .args .at) (c .before .before .before .before .before .before .before .args .number) (c .before .before .before .before .before .if1 .left) (c .before .before .before .before .before .before .before .pre .1)))
 
 pub +put-decimal-spec : {M : Type 1} → statement M
 +put-decimal-spec = close μ-put-decimal λ t. put-decimal-lts.spec (
@@ -122,13 +122,13 @@ pub +put-decimal-spec : {M : Type 1} → statement M
     (put-decimal-at t)
     put-decimal.Post
     (put-decimal-decimal-digit-requires t)
-    (put-decimal-slice-write-room t)
+    (put-decimal-slice-write-buffer t)
     (put-decimal-add-result t)
     (put-decimal-same-length t)
     (put-decimal-returns t)
     (put-decimal-put-decimal-requires t)
     (put-decimal-decimal-digit-requires-2 t)
-    (put-decimal-slice-write-room-2 t)
+    (put-decimal-slice-write-buffer-2 t)
     (put-decimal-add-result-2 t)
     (put-decimal-same-length-2 t)
     (put-decimal-returns-2 t)

@@ -5,28 +5,28 @@ use native.Mathlib.Omega.{arith}
 use borrow.Author.Needs.{needs}
 use lib.ListN.{length, take, length-set}
 use lib.Seq.{take-all}
-use Rattle.rooms.specs.Lay.{lay}
-use Rattle.rooms.proofs.Laws.{lay-nil, lay-next}
+use Rattle.lists.specs.Lay.{lay}
+use Rattle.lists.proofs.Laws.{lay-nil, lay-next}
 use Rattle.report.proofs.copy_at.Statement.{statement}
 use Rattle.report.proofs.copy_at.Tie as tie
 
 abbrev Inv-loop : tie.InvT-loop
-Inv-loop room₀ at text i₀ room i = (i ≤ length text) × (length room ≡ length room₀) × (room ≡ lay room₀ at (take i text))
+Inv-loop buffer₀ at text i₀ buffer i = (i ≤ length text) × (length buffer ≡ length buffer₀) × (buffer ≡ lay buffer₀ at (take i text))
 
 abbrev μ-loop : tie.MeasureT-loop
-μ-loop room₀ at text i₀ room i = length text - i
+μ-loop buffer₀ at text i₀ buffer i = length text - i
 
 loop-holds : tie.Need-loop-holds Inv-loop μ-loop
 loop-holds c = (omega arith, refl, sym (lay-nil _ _))
 
-shared-slice-read-room : tie.Need-shared-slice-read-room Inv-loop μ-loop
-shared-slice-read-room c = search needs
+shared-slice-read-buffer : tie.Need-shared-slice-read-buffer Inv-loop μ-loop
+shared-slice-read-buffer c = search needs
 
-add-room : tie.Need-add-room Inv-loop μ-loop
-add-room c = search needs
+add-buffer : tie.Need-add-buffer Inv-loop μ-loop
+add-buffer c = search needs
 
-slice-write-room : tie.Need-slice-write-room Inv-loop μ-loop
-slice-write-room c = search needs
+slice-write-buffer : tie.Need-slice-write-buffer Inv-loop μ-loop
+slice-write-buffer c = search needs
 
 add-i : tie.Need-add-i Inv-loop μ-loop
 add-i c = search needs
@@ -35,7 +35,7 @@ loop-less : tie.Need-loop-less Inv-loop μ-loop
 loop-less c = search needs
 
 loop-again : tie.Need-loop-again Inv-loop μ-loop
-loop-again c = (omega arith, simp length-set (c .before .before .loop .inv .1), rw (c .before .before .loop .inv .2) (lay-next (c .before .before .before .args .room .now) (c .before .before .before .args .text .now) (c .before .before .before .args .at) (c .before .before .loop .i) 0 (omega arith) (omega arith)))
+loop-again c = (omega arith, simp length-set (c .before .before .loop .inv .1), rw (c .before .before .loop .inv .2) (lay-next (c .before .before .before .args .buffer .now) (c .before .before .before .args .text .now) (c .before .before .before .args .at) (c .before .before .loop .i) 0 (omega arith) (omega arith)))
 
 same-length : tie.Need-same-length Inv-loop μ-loop
 same-length c = c .before .loop .inv .1
@@ -50,9 +50,9 @@ copy-at-spec =
     Inv-loop
     μ-loop
     loop-holds
-    shared-slice-read-room
-    add-room
-    slice-write-room
+    shared-slice-read-buffer
+    add-buffer
+    slice-write-buffer
     add-i
     loop-less
     loop-again

@@ -28,7 +28,7 @@ same-length-5 : tie.Need-same-length-5
 same-length-5 c = search needs
 
 returns : tie.Need-returns
-returns c = record { hands-back = c .before .before .before .before .before .before .before .before .before .before .before .before .before .before .feed .ensures .hands-back; counts = rw (← (c .before .before .before .before .before .before .before .before .before .before .before .before .before .before .feed .ensures .says)) (c .next-number .ensures); appends = rw (← (c .before .before .before .before .before .before .before .before .before .before .before .before .before .before .feed .ensures .says)) (c .before .before .before .line .ensures); packet-room = c .before .before .before .before .before .before .before .before .before .before .before .before .before .before .feed .ensures .packet-room; answer-room = c .before .before .before .before .before .before .before .before .before .before .before .before .before .before .feed .ensures .answer-room; in-flash = c .before .before .before .before .before .before .before .before .before .before .before .before .before .before .feed .ensures .in-flash; in-words = c .before .before .before .before .before .before .before .before .before .before .before .before .before .before .feed .ensures .in-words }
+returns c = record { hands-back = c .before .before .before .before .before .before .before .before .before .before .before .before .before .before .feed .ensures .hands-back; counts = rw (← (c .before .before .before .before .before .before .before .before .before .before .before .before .before .before .feed .ensures .says)) (c .next-number .ensures); appends = rw (← (c .before .before .before .before .before .before .before .before .before .before .before .before .before .before .feed .ensures .says)) (c .before .before .before .line .ensures); packet-buffer = c .before .before .before .before .before .before .before .before .before .before .before .before .before .before .feed .ensures .packet-buffer; answer-buffer = c .before .before .before .before .before .before .before .before .before .before .before .before .before .before .feed .ensures .answer-buffer; in-flash = c .before .before .before .before .before .before .before .before .before .before .before .before .before .before .feed .ensures .in-flash; in-words = c .before .before .before .before .before .before .before .before .before .before .before .before .before .before .feed .ensures .in-words }
 
 pub feed-spec : {M : Type 1} → statement M
 feed-spec =

@@ -1,4 +1,4 @@
-use Rattle.rooms.proofs.Laws.{tests}
+use Rattle.lists.proofs.Laws.{tests}
 use borrow.Author.Needs.{needs}
 use Rattle.report.proofs.hex_digit.Statement.{statement}
 use Rattle.report.proofs.hex_digit.Tie as tie

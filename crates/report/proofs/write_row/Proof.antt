@@ -1,7 +1,7 @@
 -- The fields laid behind the number.
 use native.Mathlib.Omega.{arith}
 use lib.ListN.{length-append}
-use Rattle.rooms.proofs.Laws.{lay-lay}
+use Rattle.lists.proofs.Laws.{lay-lay}
 use Rattle.report.specs.Numbers.{decimal}
 use borrow.Author.Needs.{needs}
 use Rattle.report.proofs.write_row.Statement.{statement}
@@ -20,7 +20,7 @@ same-length : tie.Need-same-length
 same-length c = search needs
 
 returns : tie.Need-returns
-returns c = (simp length-append (omega arith), rw (c .before .before .copy-at .ensures, c .before .before .before .before .before .before .put-decimal .ensures .1, c .before .before .before .before .before .before .put-decimal .ensures .0) (lay-lay (c .before .before .before .before .before .before .before .before .before .before .args .room .now) (c .before .before .before .before .before .before .before .before .before .before .args .used) (decimal (c .before .before .before .before .before .before .before .before .before .before .args .number)) (c .before .before .before .before .before .before .before .before .before .before .args .fields .now) (omega arith)))
+returns c = (simp length-append (omega arith), rw (c .before .before .copy-at .ensures, c .before .before .before .before .before .before .put-decimal .ensures .1, c .before .before .before .before .before .before .put-decimal .ensures .0) (lay-lay (c .before .before .before .before .before .before .before .before .before .before .args .buffer .now) (c .before .before .before .before .before .before .before .before .before .before .args .used) (decimal (c .before .before .before .before .before .before .before .before .before .before .args .number)) (c .before .before .before .before .before .before .before .before .before .before .args .fields .now) (omega arith)))
 
 pub write-row-spec : {M : Type 1} → statement M
 write-row-spec =

@@ -4,8 +4,8 @@ use mathlib.Core.Path.{_≡_, refl, sym}
 use native.Mathlib.Omega.{arith}
 use lib.ListN.{length, take, drop, length-set}
 use borrow.Author.Needs.{needs}
-use Rattle.rooms.specs.Lay.{lay}
-use Rattle.rooms.proofs.Laws.{lay-nil}
+use Rattle.lists.specs.Lay.{lay}
+use Rattle.lists.proofs.Laws.{lay-nil}
 use Rattle.link.proofs.Holder.{copy-more, copy-all}
 use Rattle.link.proofs.frames.contents.Statement.{statement}
 use Rattle.link.proofs.frames.contents.Tie as tie

@@ -1,4 +1,4 @@
-use Rattle.rooms.proofs.Laws.{tests}
+use Rattle.lists.proofs.Laws.{tests}
 use Rattle.link.specs.Frames.{known}
 use Rattle.link.proofs.frames.is_known.Statement.{statement}
 use Rattle.link.proofs.frames.is_known.Tie as tie

@@ -1,5 +1,5 @@
 use borrow.Author.Needs.{needs}
-use Rattle.rooms.proofs.Laws.{tests}
+use Rattle.lists.proofs.Laws.{tests}
 use Rattle.link.specs.Frames.{size}
 use Rattle.link.proofs.frames.size_of.Statement.{statement}
 use Rattle.link.proofs.frames.size_of.Tie as tie

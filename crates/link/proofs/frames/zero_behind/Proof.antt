@@ -1,7 +1,7 @@
 -- With nothing held the type byte is the first that has to be zero.
 use lib.Dec.{eqb}
 use borrow.Author.Needs.{needs}
-use Rattle.rooms.specs.Bytes.{allAre}
+use Rattle.lists.specs.Bytes.{allAre}
 use Rattle.link.proofs.Holder.{both, drop-past}
 use Rattle.link.proofs.frames.zero_behind.Statement.{statement}
 use Rattle.link.proofs.frames.zero_behind.Tie as tie

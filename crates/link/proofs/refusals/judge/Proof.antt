@@ -1,5 +1,5 @@
 use borrow.Author.Needs.{needs}
-use Rattle.rooms.specs.Checks.{first}
+use Rattle.lists.specs.Checks.{first}
 use Rattle.link.specs.Step.{checks}
 use Rattle.link.proofs.refusals.judge.Statement.{statement}
 use Rattle.link.proofs.refusals.judge.Tie as tie

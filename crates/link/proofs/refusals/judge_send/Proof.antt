@@ -1,5 +1,5 @@
 use borrow.Author.Needs.{needs}
-use Rattle.rooms.specs.Checks.{first}
+use Rattle.lists.specs.Checks.{first}
 use Rattle.link.specs.Step.{sendChecks}
 use Rattle.link.proofs.refusals.judge_send.Statement.{statement}
 use Rattle.link.proofs.refusals.judge_send.Tie as tie

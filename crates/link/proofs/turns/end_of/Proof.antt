@@ -1,4 +1,4 @@
-use Rattle.rooms.proofs.Laws.{tests}
+use Rattle.lists.proofs.Laws.{tests}
 use Rattle.link.specs.Answers.{ended}
 use Rattle.link.proofs.turns.end_of.Statement.{statement}
 use Rattle.link.proofs.turns.end_of.Tie as tie

@@ -1,5 +1,5 @@
 use borrow.Author.Needs.{needs}
-use Rattle.rooms.proofs.Laws.{tests}
+use Rattle.lists.proofs.Laws.{tests}
 use Rattle.link.specs.Step.{openFrame}
 use Rattle.link.proofs.turns.open_frame.Statement.{statement}
 use Rattle.link.proofs.turns.open_frame.Tie as tie

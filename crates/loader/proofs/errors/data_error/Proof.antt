@@ -1,5 +1,5 @@
 use Rattle.loader.specs.Errors.{dataChecks}
-use Rattle.rooms.specs.Checks.{first}
+use Rattle.lists.specs.Checks.{first}
 use borrow.Author.Needs.{needs}
 use Rattle.loader.proofs.errors.data_error.Statement.{statement}
 use Rattle.loader.proofs.errors.data_error.Tie as tie

@@ -1,6 +1,6 @@
 use Rattle.framing.specs.Packets.{header}
 use Rattle.commands.specs.Header.{command}
-use Rattle.rooms.proofs.Laws.{tests}
+use Rattle.lists.proofs.Laws.{tests}
 use borrow.Author.Needs.{needs}
 use Rattle.loader.proofs.header.read_packet.Statement.{statement}
 use Rattle.loader.proofs.header.read_packet.Tie as tie

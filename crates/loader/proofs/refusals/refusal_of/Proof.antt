@@ -1,5 +1,5 @@
-use Rattle.loader.specs.Refusals.{refusal, roomChecks}
-use Rattle.rooms.specs.Checks.{first}
+use Rattle.loader.specs.Refusals.{refusal, bufferChecks}
+use Rattle.lists.specs.Checks.{first}
 use borrow.Author.Needs.{needs}
 use Rattle.loader.proofs.refusals.refusal_of.Statement.{statement}
 use Rattle.loader.proofs.refusals.refusal_of.Tie as tie
@@ -29,7 +29,7 @@ check-requires-5 : tie.Need-check-requires-5
 check-requires-5 c κs = search needs
 
 returns : tie.Need-returns
-unfolding refusal roomChecks first
+unfolding refusal bufferChecks first
 returns c = cc
 
 pub refusal-of-spec : {M : Type 1} → statement M

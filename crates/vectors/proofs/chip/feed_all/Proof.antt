@@ -1,4 +1,4 @@
--- Loop: the lent rooms keep their lengths, and no call closes more than one packet.
+-- Loop: the lent buffers keep their lengths, and no call closes more than one packet.
 use Prim.Native.Nat.{_-_, _≤_}
 use mathlib.Core.Path.{_≡_, _∙_}
 use native.Mathlib.Omega.{arith}

@@ -1,4 +1,4 @@
--- Loop: the room keeps its length.
+-- Loop: the buffer keeps its length.
 use Prim.Native.Nat.{_-_, _≤_}
 use mathlib.Core.Path.{_≡_}
 use native.Mathlib.Omega.{arith}
@@ -8,16 +8,16 @@ use Rattle.vectors.proofs.chip.fill.Statement.{statement}
 use Rattle.vectors.proofs.chip.fill.Tie as tie
 
 abbrev Inv-loop : tie.InvT-loop
-Inv-loop room₀ from upto value i₀ room i = (i ≤ upto) × (length room ≡ length room₀)
+Inv-loop buffer₀ from upto value i₀ buffer i = (i ≤ upto) × (length buffer ≡ length buffer₀)
 
 abbrev μ-loop : tie.MeasureT-loop
-μ-loop room₀ from upto value i₀ room i = upto - i
+μ-loop buffer₀ from upto value i₀ buffer i = upto - i
 
 loop-holds : tie.Need-loop-holds Inv-loop μ-loop
 loop-holds c = search needs
 
-slice-write-room : tie.Need-slice-write-room Inv-loop μ-loop
-slice-write-room c = search needs
+slice-write-buffer : tie.Need-slice-write-buffer Inv-loop μ-loop
+slice-write-buffer c = search needs
 
 add-i : tie.Need-add-i Inv-loop μ-loop
 add-i c = search needs
@@ -41,7 +41,7 @@ fill-spec =
     Inv-loop
     μ-loop
     loop-holds
-    slice-write-room
+    slice-write-buffer
     add-i
     loop-less
     loop-again

@@ -1,4 +1,4 @@
--- Loop: the room keeps its length.
+-- Loop: the buffer keeps its length.
 use Prim.Native.Nat.{_-_, _≤_}
 use mathlib.Core.Path.{_≡_}
 use lib.ListN.{length}
@@ -7,11 +7,11 @@ use Rattle.vectors.proofs.probe.hear.Statement.{statement}
 use Rattle.vectors.proofs.probe.hear.Tie as tie
 
 abbrev Inv-loop : tie.InvT-loop
-Inv-loop line tick room₀ state₀ event₀ count₀ sent₀ i₀ room state event count sent i =
-    (i ≤ length line) × (length room ≡ length room₀)
+Inv-loop line tick buffer₀ state₀ event₀ count₀ sent₀ i₀ buffer state event count sent i =
+    (i ≤ length line) × (length buffer ≡ length buffer₀)
 
 abbrev μ-loop : tie.MeasureT-loop
-μ-loop line tick room₀ state₀ event₀ count₀ sent₀ i₀ room state event count sent i = length line - i
+μ-loop line tick buffer₀ state₀ event₀ count₀ sent₀ i₀ buffer state event count sent i = length line - i
 
 loop-holds : tie.Need-loop-holds Inv-loop μ-loop
 loop-holds c = search needs

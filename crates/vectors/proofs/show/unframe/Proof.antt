@@ -1,4 +1,4 @@
--- Loop: the room keeps its length.
+-- Loop: the buffer keeps its length.
 use Prim.Native.Nat.{_-_}
 use mathlib.Core.Path.{_≡_}
 use borrow.Author.Needs.{needs}
@@ -7,10 +7,10 @@ use Rattle.vectors.proofs.show.unframe.Statement.{statement}
 use Rattle.vectors.proofs.show.unframe.Tie as tie
 
 abbrev Inv-loop : tie.InvT-loop
-Inv-loop line room₀ state₀ closing₀ i₀ room state closing i = (length room ≡ length room₀)
+Inv-loop line buffer₀ state₀ closing₀ i₀ buffer state closing i = (length buffer ≡ length buffer₀)
 
 abbrev μ-loop : tie.MeasureT-loop
-μ-loop line room₀ state₀ closing₀ i₀ room state closing i = length line - i
+μ-loop line buffer₀ state₀ closing₀ i₀ buffer state closing i = length line - i
 
 new-requires : tie.Need-new-requires Inv-loop μ-loop
 new-requires c κs = search needs

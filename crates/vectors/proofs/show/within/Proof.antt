@@ -6,7 +6,7 @@ use Rattle.vectors.proofs.show.within.Statement.{statement}
 use Rattle.vectors.proofs.show.within.Tie as tie
 
 returns : tie.Need-returns
-returns c = (omega arith, sym (length-take-le (c .before .args .told) (c .before .args .room .now) (omega arith)))
+returns c = (omega arith, sym (length-take-le (c .before .args .told) (c .before .args .buffer .now) (omega arith)))
 
 returns-2 : tie.Need-returns-2
 returns-2 c = search needs
