@@ -45,7 +45,7 @@ use Rattle.link.specs.declared.Link.{Link}
 use Rattle.link.specs.declared.Next.{Next}
 use Rattle.link.proofs.send.Symbol.{name as #link·send}
 use Rattle.link_lent.proofs.Values.{machL, machD, isL, isD}
-use Rattle.link_lent.proofs.send.Key.{name as #link-lengths·send}
+use Rattle.link_lent.proofs.send.Key.{name as #link-lent·send}
 use denote.Triple.Statement.{Contract, Triple}
 use denote.Struct.Laws as LL
 use Rattle.link.proofs.Link as T
@@ -57,11 +57,11 @@ use Rattle.link.proofs.Told.Laws as D′
 use Rattle.link.proofs.send as step
 use Rattle.link.proofs.send.Symbol as step-def
 use Rattle.link.proofs.send.Met as step-thm
-use Rattle.link_lent.proofs.send as lengths
+use Rattle.link_lent.proofs.send as lent
 use Rattle.link_lent.proofs.send.Statement as stated
 use Rattle.link_lent.proofs.send.Code as code
 
-abbrev stayed : Stays (lengths.ended .signature .params) (lengths.ended .kept)
+abbrev stayed : Stays (lent.ended .signature .params) (lent.ended .kept)
 stayed = (stay-ref (0 ∷ []) tt (plain (λ _. T.the-row)), (stay-dropped (shrSliceOf (1 ∷ []) tt (plain (λ _. u8))) yes, (stay-none (λ _. u32) yes, (gave-slice (2 ∷ []) tt (plain (λ _. u8)), tt))))
 
 -- the contract that the proof cites
@@ -91,7 +91,7 @@ module _ {M : Type 1} (𝓤 : URA M) (H : Heap 𝓤) (A : Atoms 𝓤) (W : Given
   vals = (vptr b o ∷ [], (u ∷ [], (vint w32 t ∷ [], (s ∷ [], tt))))
 
   abbrev Post : Val → SProp 𝓤
-  Post = walkOf 𝓤 H A lengths.ended stayed (lengths.clauses 𝓤 H A at-mem run) .post (((κ, (κ₁, (κ′, tt))), (q, (q₁, (q′, tt))), tt, a, vals), tt)
+  Post = walkOf 𝓤 H A lent.ended stayed (lent.clauses 𝓤 H A at-mem run) .post (((κ, (κ₁, (κ′, tt))), (q, (q₁, (q′, tt))), tt, a, vals), tt)
 
   -- what `link::send`'s triple binds outside: the buffer's own lifetime, share and value
   abbrev to-step : StepC 𝓤 H A at-mem run .Ghost
@@ -111,13 +111,13 @@ module _ {M : Type 1} (𝓤 : URA M) (H : Heap 𝓤) (A : Atoms 𝓤) (W : Given
       → ent 𝓤 (⋆ 𝓤 H A (‵ (fobs γ (T.the-row .coded .code (r .link))) ∷ ‵ (fbor κ (Body (mem T.the-row) b o γ)) ∷ ‵ (flft κ q) ∷ (‵ (flft κ₁ q₁) ⊛ ‵ (flft κ′ q′) ⊛ ‵ ftrue) ∷ ‵ (finally u8 γ′ zs) ∷ [])) (Post (machD (r .told)))
   exits r zs e l g =
       qed W (‵ (fobs γ (T.the-row .coded .code (r .link))) ∷ ‵ (fbor κ (Body (mem T.the-row) b o γ)) ∷ ‵ (flft κ q) ∷ (‵ (flft κ₁ q₁) ⊛ ‵ (flft κ′ q′) ⊛ ‵ ftrue) ∷ ‵ (finally u8 γ′ zs) ∷ []) ∵
-      suffices ! _ (ends-at 𝓤 H A lengths.ended stayed (lengths.clauses 𝓤 H A at-mem run) W (((κ, (κ₁, (κ′, tt))), (q, (q₁, (q′, tt))), tt, a, vals), tt) (machD (r .told)) (r .told) (r .link, (tt, (tt, (zs, tt)))) (tt, (tt, (tt, (l, tt))))) $ says ! e $
+      suffices ! _ (ends-at 𝓤 H A lent.ended stayed (lent.clauses 𝓤 H A at-mem run) W (((κ, (κ₁, (κ′, tt))), (q, (q₁, (q′, tt))), tt, a, vals), tt) (machD (r .told)) (r .told) (r .link, (tt, (tt, (zs, tt)))) (tt, (tt, (tt, (l, tt))))) $ says ! e $
       move ! (2 ∷ 3 ∷ []) $ join ! $ frame ! $ feqI ! (List Val) (vptr b o ∷ []) (vptr b o ∷ []) refl $ fjoin3 ! $
       nothing ! $ move ! (2 ∷ 0 ∷ []) $ fjoin ! $ owned ! u32 (Is u32) (uint-makes 𝓤 H A W w32) t _ (refl, t-fits) $ fjoin ! $ nothing ! $ fjoin ! $
       move ! (1 ∷ 0 ∷ []) $ fjoin ! $ owned ! D.the-row (Is D.the-row) (LL.makes D.the-type D′.the-plain 𝓤 H A) (r .told) _ g $ move ! (1 ∷ 0 ∷ []) $ done !
 
   module _ (C : Calls 𝓤 H) (Λ : Loops 𝓤 H) (fm : FmC 𝓤 H (W .laws) C) (known : Triple 𝓤 (C #link·send) (StepC 𝓤 H A at-mem run)) where
-    walk : Room u8 (length ds) → Room u8 (length ys) → ent 𝓤 (onEntry 𝓤 H A lengths.signature (κ, (κ₁, (κ′, tt))) (q, (q₁, (q′, tt))) a vals) (WpFn 𝓤 H C Λ code.function (vptr b o ∷ u ∷ vint w32 t ∷ s ∷ []) Post)
+    walk : Room u8 (length ds) → Room u8 (length ys) → ent 𝓤 (onEntry 𝓤 H A lent.signature (κ, (κ₁, (κ′, tt))) (q, (q₁, (q′, tt))) a vals) (WpFn 𝓤 H C Λ code.function (vptr b o ∷ u ∷ vint w32 t ∷ s ∷ []) Post)
     walk dbuffer buffer =
         qed W ((‵ (flft κ q) ⊛ ‵ (flft κ₁ q₁) ⊛ ‵ (flft κ′ q′) ⊛ ‵ ftrue) ∷ ‵ (owns (MutRef (named 0) κ T.the-row ∷ ShrSlice (named 1) κ₁ u8 ∷ u32 ∷ MutSlice (named 2) κ′ u8 ∷ []) a vals) ∷ []) ∵ enter ! C Λ code.function (vptr b o ∷ u ∷ vint w32 t ∷ s ∷ []) _ $
         alloc1 ! (λ l₀. alloc1 ! (λ l₁. alloc1 ! (λ l₂. alloc1 ! (λ l₃. alloc1 ! (λ l₄. alloc1 ! (λ l₅. alloc1 ! (λ l₆. alloc1 ! (λ l₇. alloc1 ! (λ l₈. alloc0 ! $ params1 ! $
@@ -151,23 +151,23 @@ module _ {M : Type 1} (𝓤 : URA M) (H : Heap 𝓤) (A : Atoms 𝓤) (W : Given
         keep ! (0 ∷ 1 ∷ 2 ∷ 3 ∷ 4 ∷ []) $ by ! (exits r (zs .1 .1 .1 .0) e l (isD r w is)))))))))))))))))))
 
 module _ {M : Type 1} (𝓤 : URA M) (H : Heap 𝓤) (A : Atoms 𝓤) (W : Given 𝓤 H A) (mem : Memory → SProp 𝓤) (run : Routine → Fun 𝓤) where
-  send-walks : (C : Calls 𝓤 H) (Λ : Loops 𝓤 H) → FmC 𝓤 H (W .laws) C → Triple 𝓤 (C #link·send) (StepC 𝓤 H A mem run) → Walks 𝓤 H A lengths.ended stayed (WpFn 𝓤 H C Λ code.function) (lengths.clauses 𝓤 H A mem run)
-  send-walks C Λ fm known = walked 𝓤 H A lengths.ended stayed (lengths.clauses 𝓤 H A mem run) (WpFn 𝓤 H C Λ code.function)
+  send-walks : (C : Calls 𝓤 H) (Λ : Loops 𝓤 H) → FmC 𝓤 H (W .laws) C → Triple 𝓤 (C #link·send) (StepC 𝓤 H A mem run) → Walks 𝓤 H A lent.ended stayed (WpFn 𝓤 H C Λ code.function) (lent.clauses 𝓤 H A mem run)
+  send-walks C Λ fm known = walked 𝓤 H A lent.ended stayed (lent.clauses 𝓤 H A mem run) (WpFn 𝓤 H C Λ code.function)
       (λ κs. (ptr-vals, (slice-vals, (uint-vals w32, (slice-vals, tt))))) (λ κs. (mut-tells (named 0) (κs .0) T.the-row, (shr-slice-tells (named 1) (κs .1 .0) u8, (uint-tells w32, (mut-slice-tells (named 2) (κs .1 .1 .0) u8, tt)))))
       (λ κs qs bounds a g are. via 𝓤 _ (fst∗ 𝓤 _ (emp 𝓤))
       (walk 𝓤 H A W mem run (κs .0) (κs .1 .0) (κs .1 .1 .0) (qs .0) (qs .1 .0) (qs .1 .1 .0) (a .0 .ptr .0) (a .0 .ptr .1) (a .0 .name) (a .0 .now) (a .1 .1 .0) (a .1 .0 .ptr .0) (a .1 .0 .ptr .1) (a .1 .0 .name) (a .1 .0 .now) (a .1 .1 .1 .0 .ptr .0) (a .1 .1 .1 .0 .ptr .1) (a .1 .1 .1 .0 .name) (a .1 .1 .1 .0 .now) (are .1 .1 .0 .1) C Λ fm known (are .1 .0 .0 .1) (are .1 .1 .1 .0 .0 .1)))
 
 send-meets : {M : Type 1} (𝓤 : URA M) (H : Heap 𝓤) (A : Atoms 𝓤) → Given 𝓤 H A → (mem : Memory → SProp 𝓤) (run : Routine → Fun 𝓤) (𝓣 : Tables 𝓤 H) → Triple 𝓤 (𝓣 .C #link·send) (StepC 𝓤 H A mem run)
-    → Meets 𝓤 H A lengths.signature (WpFn 𝓤 H (𝓣 .C) (𝓣 .Λ) code.function) (lengths.spec 𝓤 H A mem run)
+    → Meets 𝓤 H A lent.signature (WpFn 𝓤 H (𝓣 .C) (𝓣 .Λ) code.function) (lent.spec 𝓤 H A mem run)
 send-meets 𝓤 H A W mem run 𝓣 known =
-    walk-meets 𝓤 H A lengths.ended stayed W
+    walk-meets 𝓤 H A lent.ended stayed W
     (goes-ref 𝓤 H A W 3 0 tt (plain (λ _. T.the-row)), (goes-dropped 𝓤 H A W 3 (shrSliceOf (1 ∷ []) tt (plain (λ _. u8))) yes (λ κs x f. refl), (goes-none 𝓤 H A W 3 (λ _. u32) yes (λ κs x f. refl), (goes-gave-slice 𝓤 H A W 3 2 tt (plain (λ _. u8)), tt))))
-    (lengths.clauses 𝓤 H A mem run) (WpFn 𝓤 H (𝓣 .C) (𝓣 .Λ) code.function) (WpFn-mono 𝓤 H (W .laws) 𝓣 code.function) (send-walks 𝓤 H A W mem run (𝓣 .C) (𝓣 .Λ) (fmOf 𝓤 H (W .laws) 𝓣) known)
+    (lent.clauses 𝓤 H A mem run) (WpFn 𝓤 H (𝓣 .C) (𝓣 .Λ) code.function) (WpFn-mono 𝓤 H (W .laws) 𝓣 code.function) (send-walks 𝓤 H A W mem run (𝓣 .C) (𝓣 .Λ) (fmOf 𝓤 H (W .laws) 𝓣) known)
 
 pub send-spec : {M : Type 1} → stated.statement M
 unfolding code.routine tablesOf
 send-spec 𝓤 H 𝓜 𝓖 𝓡 =
-    entered 𝓤 H (tripleOf 𝓤 H (𝓖 .A) lengths.signature (lengths.spec 𝓤 H (𝓖 .A) (𝓜 .mem) (𝓡 .run)))
-    (tables 𝓤 H 𝓜 𝓡 code.env .C) (tables 𝓤 H 𝓜 𝓡 code.env .Λ) #link-lengths·send code.function (code.unfolded 𝓤 H 𝓜 𝓡)
+    entered 𝓤 H (tripleOf 𝓤 H (𝓖 .A) lent.signature (lent.spec 𝓤 H (𝓖 .A) (𝓜 .mem) (𝓡 .run)))
+    (tables 𝓤 H 𝓜 𝓡 code.env .C) (tables 𝓤 H 𝓜 𝓡 code.env .Λ) #link-lent·send code.function (code.unfolded 𝓤 H 𝓜 𝓡)
     (send-meets 𝓤 H (𝓖 .A) (givenOf 𝓤 H 𝓜 𝓖) (𝓜 .mem) (𝓡 .run) (tablesOf 𝓤 H 𝓜 (tables 𝓤 H 𝓜 𝓡 code.env))
     (cited 𝓤 H (StepC 𝓤 H (𝓖 .A) (𝓜 .mem) (𝓡 .run)) 𝓜 𝓡 code.env #link·send step-def.routine code.calls-link·send (step-thm.met 𝓤 H 𝓜 𝓖 𝓡)))
