@@ -10,10 +10,10 @@ use Rattle.framing.specs.Frame.{longest, framed}
 use Rattle.framing.specs.Packets.{header}
 use Rattle.framing.specs.Line.{stepOf}
 use Rattle.framing.specs.Run.{fresh}
-use Rattle.loader.specs.Answer.{answerBytes}
-use Rattle.loader.specs.Handle.{replied, handle}
+use Rattle.effects.specs.Handle.{replied, handle}
+use Rattle.effects.specs.declared.Note.{Note}
+use Rattle.answers.specs.Answer.{answerBytes}
 use Rattle.loader.specs.Step.{taken, answerBuffer, toldOf}
-use Rattle.loader.specs.declared.Note.{Note}
 use Rattle.cases.specs.Feeding.{Lending, begun, sentCount, sends}
 use Rattle.cases.proofs.Fed.{packet-fed, freshCore, allowed-fresh}
 

@@ -15,19 +15,19 @@ use Rattle.fields.proofs.Theorems.{word-back}
 use Rattle.framing.specs.Frame.{framed}
 use Rattle.framing.specs.Packets.{read, header}
 use Rattle.commands.specs.Header.{command, sized, shaped, dataShaped}
-use Rattle.commands.specs.Begin.{beginOf, roundUp, counted, flashRule}
+use Rattle.begins.specs.Begin.{beginOf, roundUp, counted, flashRule}
 use Rattle.commands.specs.Block.{payload, zeroWords, sumGood, padding, paddingGood}
-use Rattle.commands.specs.declared.Begin.{Begin}
-use Rattle.commands.proofs.Sectors.{next-block}
-use Rattle.loader.specs.Handle.{Core}
+use Rattle.begins.specs.declared.Begin.{Begin}
+use Rattle.begins.proofs.Sectors.{next-block}
+use Rattle.sessions.specs.declared.Session.the-variants.{Flash}
+use Rattle.effects.specs.Core.{Core}
 use Rattle.loader.specs.Step.{Step}
-use Rattle.loader.specs.declared.Session.the-variants.{Flash}
-use Rattle.claims.specs.Grammar as grammar
-use Rattle.claims.specs.Grammar.{flashBegin, goodBlock, carries}
-use Rattle.claims.specs.Demand3.{Loaded}
-use Rattle.claims.proofs.Goodness.{block-whole}
-use Rattle.claims.proofs.Sessions.{began, accepts}
-use Rattle.claims.proofs.Flash.{loadedUpTo, nothing-loaded, Sizes, block-loaded, loaded}
+use Rattle.history.specs.Grammar as grammar
+use Rattle.history.specs.Grammar.{flashBegin, goodBlock, carries}
+use Rattle.history.specs.Loaded.{Loaded}
+use Rattle.history.proofs.Goodness.{block-whole}
+use Rattle.history.proofs.Sessions.{began, accepts}
+use Rattle.history.proofs.Flash.{loadedUpTo, nothing-loaded, Sizes, block-loaded, loaded}
 use Rattle.cases.specs.Feeding.{Lending, begun, fed, framedAll}
 use Rattle.cases.specs.Packets.{beginPacket, Block, dataPacket}
 use Rattle.cases.specs.Cases.{fiveBlocks}

@@ -11,15 +11,15 @@ use Rattle.fields.specs.Pins.{pinGood, pinField, pinsGood, pinsWord, packingOf}
 use Rattle.framing.specs.Frame.{escaped, framed}
 use Rattle.framing.specs.Packets.{header}
 use Rattle.commands.specs.Header.{command, sized, shaped}
-use Rattle.commands.specs.Begin.{beginOf, roundUp, counted, flashRule}
+use Rattle.begins.specs.Begin.{beginOf, roundUp, counted, flashRule}
 use Rattle.commands.specs.Parameters.{syncRule}
-use Rattle.loader.specs.Errors.{kind, plainChecks, checks, errorOf}
-use Rattle.loader.specs.Effects.{valueAfter, noteAfter}
-use Rattle.loader.specs.Handle.{carriedOut, failed, handle}
-use Rattle.loader.specs.declared.Note.the-variants.{Nothing}
-use Rattle.link.specs.Clock.{silence, stillDead}
-use Rattle.link.specs.Frames as frames
-use Rattle.link.specs.Link.{withDead}
+use Rattle.sessions.specs.Errors.{kind, plainChecks, checks, errorOf}
+use Rattle.effects.specs.Effects.{effect}
+use Rattle.effects.specs.Handle.{carriedOut, failed, handle}
+use Rattle.effects.specs.declared.Note.the-variants.{Nothing}
+use Rattle.link_state.specs.Clock.{silence, stillDead}
+use Rattle.link_state.specs.Link.{withDead}
+use Rattle.link_frames.specs.Frames as frames
 use Rattle.cases.specs.Packets.{syncPacket, beginPacket}
 use Rattle.cases.specs.Cases.{Starred}
 use Rattle.cases.proofs.Answers.{answered-with}
@@ -30,7 +30,7 @@ pub starred : Starred
 unfolding
     checksum xored frames.frameOf framed escaped merged mergedBits packingOf pinsGood pinsWord pinGood pinField
     handle carriedOut failed errorOf checks plainChecks first kind command shaped sized words.word words.half header
-    syncRule sameBytes allAre valueAfter noteAfter beginOf flashRule counted roundUp silence stillDead
+    syncRule sameBytes allAre effect beginOf flashRule counted roundUp silence stillDead
 starred = record {
   case-1 = refl;
   case-2 = refl;

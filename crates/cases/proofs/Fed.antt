@@ -25,13 +25,14 @@ use Rattle.framing.proofs.Cut.{clean-escaped}
 use Rattle.framing.proofs.Invariant as invariant
 use Rattle.framing.proofs.Invariant.{Pend, inside, Fed, still, whole, broken, pend-fresh, pend-opened, pend-held}
 use Rattle.framing.proofs.Runs.{escaped-leads}
+use Rattle.sessions.specs.Session.{sessionGood}
+use Rattle.effects.specs.Core.{Core}
+use Rattle.effects.specs.Handle.{Handled, handle}
 use Rattle.loader.specs.Refusals.{BufferLengths, bufferChecks, recordGood, refusal}
-use Rattle.loader.specs.Session.{sessionGood}
-use Rattle.loader.specs.Handle.{Core, Handled, handle}
 use Rattle.loader.specs.Step.{Step, Told, taken, freshLoader, coreOf, step, afterPacket, afterByte, bufferLengths, answerBuffer, toldOf}
 use Rattle.loader.specs.declared.Loader.{Loader}
+use Rattle.history.proofs.Lengths.{Sound, keeps, sound-after}
 use Rattle.claims.specs.Calls.{Called, stepped, EachCall}
-use Rattle.claims.proofs.Lengths.{Sound, keeps}
 use Rattle.claims.proofs.Line.{follows}
 use Rattle.cases.specs.Feeding.{Lending, begun, fed, framedAll}
 
@@ -167,11 +168,11 @@ module _ (t : Told) (l : Line) (c : Core) (packet answer : List ℕ) {o : Option
   pub allowed-after : Allowed (lineState Inside 0) (handled .core) full (answerBuffer (handled .reply) answer) (some [])
   unfolding stepped
   allowed-after =
-      let k = keeps c (header (some p)) (a .sound) in
+      let k = keeps c (header (some p)) (a .sound .session) in
       let n : length (answerBuffer (handled .reply) answer) ≡ length answer = rw last-step at (last-call .answer-length) in
-      let f : length (handled .core .flash) ≡ length (c .flash) = ap (λ x. x .flash) (k .lengths) in
-      let w : length (handled .core .words) ≡ length (c .words) = ap (λ x. x .words) (k .lengths) in
-      record { buffers = rw (n, f, w, full-length) (a .buffers); pending = pend-opened full; sound = k .sound }
+      let f : length (handled .core .flash) ≡ length (c .flash) = ap (λ x. x .flash) (k .same-lengths) in
+      let w : length (handled .core .words) ≡ length (c .words) = ap (λ x. x .words) (k .same-lengths) in
+      record { buffers = rw (n, f, w, full-length) (a .buffers); pending = pend-opened full; sound = sound-after c (header (some p)) (a .sound) }
 
 -- the core that a start begins with
 abbrev pub freshCore : Lending → Core

@@ -12,15 +12,20 @@ use Rattle.lists.specs.Bytes.{allAre}
 use Rattle.lists.specs.Checks.{first}
 use Rattle.fields.specs.Checksum.{xored}
 use Rattle.fields.specs.Words as words
-use Rattle.link.specs.Clock.{elapsed, silence, stillDead}
-use Rattle.link.specs.Frames.{known, size, dataFrame}
-use Rattle.link.specs.Reading.{begins, lacksSum, goodStart, allButSum, reading}
+use Rattle.link_frames.specs.Frames.{known, size, dataFrame}
+use Rattle.link_frames.specs.Reading.{begins, lacksSum, goodStart, allButSum, reading}
+use Rattle.link_state.specs.Clock.{elapsed, silence, stillDead}
+use Rattle.link_state.specs.Link.{fresh, inBaud, inOpen, renewed, kept, withDead}
+use Rattle.link_state.specs.Silence.{lost, checked}
+use Rattle.link_state.specs.Sound.{onList, fitsPhase, holderGood, sound}
+use Rattle.link_state.specs.Refusals.{checks, sendChecks}
+use Rattle.link_turns.specs.Turns.{baudFrame, listens}
 use Rattle.link.specs.Answers.{done}
-use Rattle.link.specs.Link.{fresh, inBaud, inOpen, renewed, kept, withDead, onList, fitsPhase, holderGood, sound}
-use Rattle.link.specs.Step.{lost, checked, baudFrame, wholeFrame, heard, listens, received, checks, sendChecks, call, byteStep, pollStep, sendStep}
-use Rattle.link.specs.declared.Link.{Link}
-use Rattle.link.specs.declared.Phase.{Phase}
-use Rattle.link.specs.declared.Phase.the-variants.{Start, Baud, Open}
+use Rattle.link.specs.Hearing.{wholeFrame, heard, received}
+use Rattle.link.specs.Step.{call, byteStep, pollStep, sendStep}
+use Rattle.link_state.specs.declared.Link.{Link}
+use Rattle.link_state.specs.declared.Phase.{Phase}
+use Rattle.link_state.specs.declared.Phase.the-variants.{Start, Baud, Open}
 use Rattle.cases.specs.LinkCalls.{receives, linkSends, Polled}
 
 -- outside Start, a silence is what loses the link

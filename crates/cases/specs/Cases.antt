@@ -9,12 +9,14 @@ use Rattle.fields.specs.Checksum.{checksum}
 use Rattle.fields.specs.Merge.{merged}
 use Rattle.fields.specs.Pins.{word, packingOf}
 use Rattle.framing.specs.Frame.{framed}
-use Rattle.commands.specs.Begin.{flashRule}
-use Rattle.link.specs.Clock.{elapsed}
-use Rattle.link.specs.Frames.{baudRate, dataFrame}
-use Rattle.link.specs.Link.{fresh, inBaud, inOpen, withDead}
-use Rattle.link.specs.Step.{checked, sendChecks, pollStep, sendStep}
-use Rattle.link.specs.declared.Link.{Link}
+use Rattle.begins.specs.Begin.{flashRule}
+use Rattle.link_frames.specs.Frames.{baudRate, dataFrame}
+use Rattle.link_state.specs.Clock.{elapsed}
+use Rattle.link_state.specs.Link.{fresh, inBaud, inOpen, withDead}
+use Rattle.link_state.specs.Silence.{checked}
+use Rattle.link_state.specs.Refusals.{sendChecks}
+use Rattle.link.specs.Step.{pollStep, sendStep}
+use Rattle.link_state.specs.declared.Link.{Link}
 use Rattle.cases.specs.Feeding.{Lending, begun, fed, framedAll, sends}
 use Rattle.cases.specs.LinkCalls.{receives, linkSends, Polled}
 use Rattle.cases.specs.Packets.{syncPacket, beginPacket, Block, dataPacket}

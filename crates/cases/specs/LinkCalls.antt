@@ -4,10 +4,11 @@ use mathlib.Core.List.{List, [], _∷_}
 use Prim.Native.Nat.{ℕ}
 use lib.ListN.{length, take}
 use Rattle.lists.specs.Checks.{first}
+use Rattle.link_state.specs.Refusals.{checks}
 use Rattle.link.specs.Answers.{Step}
-use Rattle.link.specs.Step.{checks, byteStep}
-use Rattle.link.specs.declared.Link.{Link}
-use Rattle.link.specs.declared.Phase.the-variants.{Start}
+use Rattle.link.specs.Step.{byteStep}
+use Rattle.link_state.specs.declared.Link.{Link}
+use Rattle.link_state.specs.declared.Phase.the-variants.{Start}
 
 -- the record after bytes that are received one after the other at one tick, with a buffer lent anew to each call
 unfoldable pub receives : Link → ℕ → List ℕ → List ℕ → Link

@@ -1,7 +1,3 @@
-pub mod Goodness
-pub mod Reader
-pub mod Sessions
-pub mod Flash
-pub mod Lengths
 pub mod Line
+pub mod CallHistory
 pub mod Demand3

@@ -16,30 +16,29 @@ use Rattle.framing.specs.Line.{Step as ByteStep, lineState, silent, stepOf}
 use Rattle.framing.specs.Run.{Closed}
 use Rattle.framing.specs.declared.Line.{Line}
 use Rattle.framing.specs.declared.Phase.the-variants.{Inside}
-use Rattle.framing.proofs.Escapes.{escaped-most, length-framed}
 use Rattle.framing.proofs.Cut.{todo}
 use Rattle.framing.proofs.Invariant.{Pend, Fed, still, whole, broken, pend-opened, pend-held, todo-nil, fed}
+use Rattle.effects.specs.Core.{Core}
+use Rattle.effects.specs.Handle.{Reply, nothing, replied, handle}
+use Rattle.answers.specs.Answer.{answerBytes}
+use Rattle.answers.specs.Reply.{longestAnswer}
+use Rattle.answers.proofs.Replies.{answer-most}
 use Rattle.loader.specs.Refusals.{BufferLengths, bufferChecks, lengthsOf, recordGood, refusal}
-use Rattle.loader.specs.Answer.{answerBytes}
-use Rattle.loader.specs.Handle.{Core, Reply, nothing, replied, handle}
 use Rattle.loader.specs.Step as loader
-use Rattle.loader.specs.Step.{Step, refused, taken, toldOf, refusing, answerBuffer, coreOf, afterByte, bufferLengths}
+use Rattle.loader.specs.Step.{Step, refused, taken, toldOf, refusing, answerBuffer, afterByte, bufferLengths}
+use Rattle.history.specs.Theorems.{Keeps}
+use Rattle.history.proofs.Lengths.{Sound, keeps, sound-after}
 use Rattle.claims.specs.Calls.{Machine, Call, stepped, next, passes, lineBytes, ClosingCall, closingCall, closingCalls, Called, EachCall}
-use Rattle.claims.proofs.Lengths.{Sound, Keeps, keeps}
+use Rattle.claims.specs.CallHistory.{coreAt, closingAs}
 
 -- the packet that a closed stretch is
 abbrev pub packetOf : Closed → Packet
 packetOf d = header (d .contents)
 
--- what the calls that close the packets ds tell, from the core c on
-unfoldable pub history : Core → List Closed → List ClosingCall
-history c [] = []
-history c (d ∷ ds) =
-    record { told = toldOf (d .stored) (handle c (packetOf d) .reply); flash = handle c (packetOf d) .core .flash }
-    ∷ history (handle c (packetOf d) .core) ds
-
-abbrev pub coreAt : Machine → Core
-coreAt m = coreOf (m .loader) (m .flash) (m .words)
+-- the calls that close the packets ds, from the core c on
+unfoldable pub closings : Core → List Closed → List ClosingCall
+closings c [] = []
+closings c (d ∷ ds) = closingAs (d .stored) (handle c (packetOf d)) ∷ closings (handle c (packetOf d) .core) ds
 
 -- a machine whose line state and packet buffer hold the open stretch o, and whose record is sound
 pub record Ready (m : Machine) (o : Option (List ℕ)) : Type 0 where
@@ -48,7 +47,7 @@ pub record Ready (m : Machine) (o : Option (List ℕ)) : Type 0 where
 
 -- what is claimed of the calls cs from the machine m on
 pub record Follows (m : Machine) (o : Option (List ℕ)) (cs : List Call) : Type 0 where
-  pub closes : closingCalls m cs ≡ history (coreAt m) (todo o (lineBytes m cs))
+  pub closes : closingCalls m cs ≡ closings (coreAt m) (todo o (lineBytes m cs))
   pub each : EachCall m cs
 
 told-never : (n : ℕ) (r : Reply) (k : ℕ) → toldOf n r ≡ refused k → ⊥
@@ -64,11 +63,7 @@ unfolding toldOf closingCall
 closes-packet-one n nothing f = refl
 closes-packet-one n (replied a b c d) f = refl
 
--- an answer fits an answer buffer of 22 bytes
-answer-most : (c e v : ℕ) → length (framed (answerBytes c e v)) ≤ 22
-answer-most c e v = omega (arith, length-framed (answerBytes c e v), escaped-most (answerBytes c e v))
-
-answer-buffer-length : (r : Reply) (buffer : List ℕ) → 22 ≤ length buffer → length (answerBuffer r buffer) ≡ length buffer
+answer-buffer-length : (r : Reply) (buffer : List ℕ) → longestAnswer ≤ length buffer → length (answerBuffer r buffer) ≡ length buffer
 unfolding answerBuffer
 answer-buffer-length nothing buffer h = refl
 answer-buffer-length (replied c e v note) buffer h = length-lay buffer 0 (framed (answerBytes c e v)) (omega (arith, answer-most c e v))
@@ -84,7 +79,7 @@ module _ (m : Machine) (c : Call) where
   -- refusals 1 to 4 let the call pass: the packet buffer holds the longest packet, and the answer buffer any answer
   record LongEnough : Type 0 where
     packet : longest ≤ length (m .buffer)
-    answer : 22 ≤ length (c .answer)
+    answer : longestAnswer ≤ length (c .answer)
 
   long-enough : passes m c ≡ true → LongEnough
   unfolding passes bufferChecks
@@ -173,15 +168,15 @@ module _ (m : Machine) (c : Call) (cs : List Call) (o : Option (List ℕ)) (r : 
   closes-packet : (d : Closed) → passes m c ≡ true
       → stepped m c ≡ loader.afterPacket (lineState Inside 0) (d .stored) (handle (coreAt m) (packetOf d)) (m .buffer) (c .answer)
       → ((bs : List ℕ) → todo o (c .byte ∷ bs) ≡ d ∷ todo (some []) bs) → Follows m o (c ∷ cs)
-  unfolding closingCalls lineBytes EachCall next loader.afterPacket history
+  unfolding closingCalls lineBytes EachCall next loader.afterPacket closings
   closes-packet d h e w =
-      let k : Keeps (coreAt m) (handle (coreAt m) (packetOf d) .core) = keeps (coreAt m) (packetOf d) (r .sound) in
-      let f = rest (closed d) (some []) (record { pending = pend-opened (m .buffer); sound = k .sound }) in
+      let k : Keeps (coreAt m) (handle (coreAt m) (packetOf d) .core) = keeps (coreAt m) (packetOf d) (r .sound .session) in
+      let f = rest (closed d) (some []) (record { pending = pend-opened (m .buffer); sound = sound-after (coreAt m) (packetOf d) (r .sound) }) in
       record {
         closes = rw (e, h, closes-packet-one, w (lineBytes (closed d) cs), f .closes);
         each = rw e (
           called-as m c _ e (λ _. told-never _ _) refl (answer-buffer-length _ (c .answer) (long-enough m c h .answer))
-              (ap (λ l. l .flash) (k .lengths)) (ap (λ l. l .words) (k .lengths)),
+              (ap (λ l. l .flash) (k .same-lengths)) (ap (λ l. l .words) (k .same-lengths)),
           f .each,
         );
       }
@@ -197,6 +192,6 @@ module _ (m : Machine) (c : Call) (cs : List Call) (o : Option (List ℕ)) (r : 
   call-follows false h = stopped h
 
 pub follows : (cs : List Call) (m : Machine) (o : Option (List ℕ)) → Ready m o → Follows m o cs
-unfolding closingCalls lineBytes EachCall history
+unfolding closingCalls lineBytes EachCall closings
 follows [] m o r = record { closes = rw (todo-nil (r .pending)); each = tt }
 follows (c ∷ cs) m o r = call-follows m c cs o r (follows cs) (passes m c) refl

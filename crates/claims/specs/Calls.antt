@@ -4,9 +4,10 @@ use mathlib.Core.List.{List, [], _∷_, _++_}
 use mathlib.Core.Bool.{Bool, true, false, cond, _&&_}
 use Prim.Native.Nat.{ℕ}
 use lib.Dec.{eqb}
-use lib.ListN.{length}
-use Rattle.commands.specs.declared.Lengths.{Lengths}
+use lib.ListN.{length, getD}
+use Rattle.begins.specs.declared.Lengths.{Lengths}
 use Rattle.lists.specs.Checks.{first}
+use Rattle.commands.specs.Numbers.{FLASH-END}
 use Rattle.loader.specs.Refusals.{bufferChecks}
 use Rattle.loader.specs.Step as loader
 use Rattle.loader.specs.Step.{Step, Told, refused, taken, dropped, answered, freshLoader, bufferLengths}
@@ -70,12 +71,16 @@ unfoldable pub closingCalls : Machine → List Call → List ClosingCall
 closingCalls m [] = []
 closingCalls m (c ∷ cs) = closingCall (stepped m c .told) (stepped m c .flash) ++ closingCalls (next m c) cs
 
+-- the closing call at a place
+unfoldable pub closingAt : List ClosingCall → ℕ → ClosingCall
+closingAt hs i = getD hs i (record { told = taken; flash = [] })
+
 -- a call answers FLASH_END with success
 unfoldable pub endsWell : Told → Bool
 endsWell (refused n) = false
 endsWell taken = false
 endsWell (dropped n) = false
-endsWell (answered n c s e sent note) = eqb c 0x04 && (eqb s 0 && eqb e 0)
+endsWell (answered n c s e sent note) = eqb c FLASH-END && (eqb s 0 && eqb e 0)
 
 -- what is claimed of one call: it takes its byte where refusals 1 to 4 let it pass, and every buffer keeps its length
 pub record Called (m : Machine) (c : Call) : Type 0 where

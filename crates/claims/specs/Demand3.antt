@@ -1,38 +1,15 @@
 -- Demand 3 of the letter, whole: one claim over every packet buffer, flash, memory and list of calls.
 use mathlib.Core.Path.{_≡_}
-use mathlib.Core.List.{List, [], _∷_, _++_}
+use mathlib.Core.List.{List}
 use mathlib.Core.Bool.{true}
 use mathlib.Core.Logic.{_↔_}
-use Prim.Native.Nat.{ℕ, suc, _+_, _-_, _<_}
-use lib.ListN.{length, take, drop, getD, replicate}
+use Prim.Native.Nat.{ℕ, suc, _<_}
+use lib.ListN.{length, take}
 use Rattle.framing.specs.Packets.{Packet, packets}
-use Rattle.commands.specs.Begin.{roundUp}
-use Rattle.commands.specs.declared.Begin.{Begin}
-use Rattle.commands.specs.declared.Lengths.{Lengths}
-use Rattle.loader.specs.Step.{taken}
-use Rattle.claims.specs.Grammar.{Choice, Fits, packet, begins, carries}
-use Rattle.claims.specs.Calls.{Call, start, lengths, lineBytes, ClosingCall, closingCalls, endsWell, EachCall}
-
--- the closing call at a place
-unfoldable pub closingAt : List ClosingCall → ℕ → ClosingCall
-closingAt hs i = getD hs i (record { told = taken; flash = [] })
-
--- the data of the packets at some places, end to end
-unfoldable pub image : List Packet → List ℕ → List ℕ
-image ps [] = []
-image ps (j ∷ js) = carries (packet ps j) ++ image ps js
-
--- Flash `after`, where g was loaded with the blocks' data d over flash `before`.
-pub record Loaded (g : Begin) (d before after : List ℕ) : Type 0 where
-  -- "The announced bytes are then the blocks' data end to end, cut at the announced size"
-  pub announced : take (g .size) (drop (g .offset) after) ≡ take (g .size) d
-  -- "the rest of the last touched sector is 0xFF"
-  pub erased :
-      take (roundUp (g .size) - g .size) (drop (g .offset + g .size) after)
-      ≡ replicate (roundUp (g .size) - g .size) 0xFF
-  -- "and each byte outside those sectors is as it was at that BEGIN": below the offset, and from the touched sectors' end on; S = 0 touches none
-  pub below : take (g .offset) after ≡ take (g .offset) before
-  pub above : drop (g .offset + roundUp (g .size)) after ≡ drop (g .offset + roundUp (g .size)) before
+use Rattle.begins.specs.declared.Lengths.{Lengths}
+use Rattle.history.specs.Grammar.{Choice, Fits, packet, begins}
+use Rattle.history.specs.Loaded.{image, Loaded}
+use Rattle.claims.specs.Calls.{Call, start, lengths, lineBytes, ClosingCall, closingCalls, closingAt, endsWell, EachCall}
 
 -- ps: the packets of the line; hs: the calls that closed one; l: the lengths lent.
 pub record Grammatical (l : Lengths) (ps : List Packet) (hs : List ClosingCall) : Type 0 where

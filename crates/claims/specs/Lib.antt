@@ -1,3 +1,3 @@
-pub mod Grammar
 pub mod Calls
+pub mod CallHistory
 pub mod Demand3

@@ -1,4 +1,2 @@
-pub mod Products
 pub mod Sync
-pub mod Sectors
 pub mod Rules

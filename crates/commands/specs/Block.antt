@@ -7,15 +7,20 @@ use lib.ListN.{drop}
 use Rattle.lists.specs.Bytes.{allAre}
 use Rattle.fields.specs.Words.{word}
 use Rattle.fields.specs.Checksum.{checksum}
-use Rattle.commands.specs.declared.Begin.{Begin}
+use Rattle.fields.specs.Places.{THIRD-WORD, FOURTH-WORD}
+use Rattle.begins.specs.declared.Begin.{Begin}
 
--- the data after the 16 bytes
+-- where the data begin, after the header and the 16 bytes
+abbrev pub DATA-AT : ℕ
+DATA-AT = 24
+
+-- the data of a block
 unfoldable pub payload : List ℕ → List ℕ
-payload p = drop 24 p
+payload p = drop DATA-AT p
 
 -- the third and fourth words are 0
 unfoldable pub zeroWords : List ℕ → Bool
-zeroWords p = eqb (word p 16) 0 && eqb (word p 20) 0
+zeroWords p = eqb (word p THIRD-WORD) 0 && eqb (word p FOURTH-WORD) 0
 
 -- the 32-bit checksum field is the checksum
 unfoldable pub sumGood : List ℕ → Bool

@@ -1,4 +1,4 @@
+pub mod Numbers
 pub mod Header
-pub mod Begin
 pub mod Block
 pub mod Parameters

@@ -8,5 +8,9 @@ unfoldable pub xored : ℕ → List ℕ → ℕ
 xored x [] = x
 xored x (b ∷ bs) = xored (bitXor x b) bs
 
+-- what a checksum of data starts from
+abbrev pub seed : ℕ
+seed = 0xEF
+
 unfoldable pub checksum : List ℕ → ℕ
-checksum bytes = xored 0xEF bytes
+checksum bytes = xored seed bytes

@@ -1,4 +1,4 @@
-// The fields of packets and frames: words, checksums, the masked merge, the pin word of SPI_ATTACH.
+// The fields of packets and frames: their places, words, checksums, the masked merge, the pin word of SPI_ATTACH.
 ghost use mathlib.Core.Path.{_≡_};
 ghost use mathlib.Core.Bool.{true};
 ghost use Prim.Native.Nat.{_<_, _%_};
@@ -22,6 +22,19 @@ pub enum Packed {
     Word(u32),
     Refused(u8),
 }
+
+// Places of a packet
+
+// The header's length, and the places of the body's first four words.
+pub const HEADER: usize = 8;
+
+pub const FIRST_WORD: usize = 8;
+
+pub const SECOND_WORD: usize = 12;
+
+pub const THIRD_WORD: usize = 16;
+
+pub const FOURTH_WORD: usize = 20;
 
 // Words
 
@@ -102,11 +115,14 @@ pub fn xor_from(seed: u8, s: &[u8], from: usize) -> u8
     x
 }
 
+// What a checksum of data starts from.
+const SEED: u8 = 0xEF;
+
 // The checksum of the bytes from a place on.
 pub fn checksum_from(s: &[u8], from: usize) -> u8
     ensures { λ r. ⌜ r ≡ checksum (drop from (now (s .entry))) ⌝ }
 {
-    xor_from(0xEF, s, from)
+    xor_from(SEED, s, from)
 }
 
 // The masked merge

@@ -1,2 +1,4 @@
-pub mod Holder
-pub mod Ways
+pub mod Padded
+pub mod Kept
+pub mod Hearing
+pub mod Calls

@@ -1,6 +1,3 @@
-pub mod Clock
-pub mod Frames
-pub mod Reading
 pub mod Answers
-pub mod Link
+pub mod Hearing
 pub mod Step

@@ -9,15 +9,22 @@ use lib.Dec.{eqb}
 use borrow.Author.Tests.{eqb-true, le-leb}
 use Rattle.lists.specs.Checks.{first}
 use Rattle.fields.specs.Checksum.{xored}
-use Rattle.link.specs.Clock.{stillDead}
-use Rattle.link.specs.Reading.{goodStart, allButSum, more, whole, wrong, reading}
-use Rattle.link.specs.Answers.{Move, done}
-use Rattle.link.specs.Link.{byPhase, heldOf, fresh, inOpen, renewed, kept, withDead, fitsPhase, onList}
-use Rattle.link.specs.Step.{quiet, broken, lost, checked, baudFrame, statusFrame, controlFrame, takenData, openFrame, wholeFrame, byReading, heard, listens, received, checks, call, byteStep}
-use Rattle.link.specs.declared.Link.{Link}
-use Rattle.link.specs.declared.Phase.{Phase}
-use Rattle.link.specs.declared.Phase.the-variants.{Start, Baud, Open}
-use Rattle.link.proofs.Ways.{and-both, held-good}
+use Rattle.lists.proofs.Tests.{both}
+use Rattle.link_frames.specs.Reading.{goodStart, allButSum, more, whole, wrong, reading, byReading}
+use Rattle.link_state.specs.Clock.{stillDead}
+use Rattle.link_state.specs.Link.{byPhase, heldOf, fresh, inOpen, renewed, kept, withDead}
+use Rattle.link_state.specs.Silence.{lost, checked}
+use Rattle.link_state.specs.Sound.{fitsPhase, onList}
+use Rattle.link_state.specs.Refusals.{checks}
+use Rattle.link_state.proofs.Sound.{held-good}
+use Rattle.link_turns.specs.Moves.{Move}
+use Rattle.link_turns.specs.Turns.{quiet, broken, baudFrame, statusFrame, controlFrame, takenData, openFrame, listens}
+use Rattle.link.specs.Answers.{done}
+use Rattle.link.specs.Hearing.{wholeFrame, heard, received}
+use Rattle.link.specs.Step.{call, byteStep}
+use Rattle.link_state.specs.declared.Link.{Link}
+use Rattle.link_state.specs.declared.Phase.{Phase}
+use Rattle.link_state.specs.declared.Phase.the-variants.{Start, Baud, Open}
 use Rattle.link_claims.specs.Decides.{Coming, Empties, now, later, Decides}
 use Rattle.link_claims.proofs.Sound.{no, Parts, parts, parts-kept, parts-dead, whole-again, not-start}
 
@@ -82,10 +89,10 @@ only-start Open e = no (sym e)
 start-empty : (p : Phase) (d r o : Bool) (rate n : ℕ) → p ≡ Start → fitsPhase p d r o rate n ≡ true → n ≡ 0
 unfolding fitsPhase
 start-empty Start d r o rate n q e =
-    let a = and-both (not d) _ e in
-    let b = and-both (not r) _ (a .1) in
-    let c = and-both (not o) _ (b .1) in
-    eqb-true n 0 (and-both (eqb rate 9600) (eqb n 0) (c .1) .1)
+    let a = both (not d) _ e in
+    let b = both (not r) _ (a .1) in
+    let c = both (not o) _ (b .1) in
+    eqb-true n 0 (both (eqb rate 9600) (eqb n 0) (c .1) .1)
 start-empty Baud d r o rate n q e = let z : _≡_ {A = ℕ} 0 1 = cc in absurd (omega arith)
 start-empty Open d r o rate n q e = let z : _≡_ {A = ℕ} 0 1 = cc in absurd (omega arith)
 

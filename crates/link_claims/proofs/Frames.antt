@@ -9,9 +9,9 @@ use lib.Dec.{eqb·suc-zero}
 use lib.Seq.{take-append-seam, take-append-le}
 use borrow.Author.Tests.{eq-eqb, ne-eqb, le-leb, leb-true}
 use Rattle.fields.specs.Checksum.{xored}
-use Rattle.link.specs.Frames.{known, size, frameOf, heartbeat, status, dataFrame}
-use Rattle.link.specs.Reading.{goodStart, begins, allButSum, lacksSum, reading}
-use Rattle.link.proofs.Ways.{and-both}
+use Rattle.lists.proofs.Tests.{both}
+use Rattle.link_frames.specs.Frames.{known, size, frameOf, heartbeat, status, dataFrame}
+use Rattle.link_frames.specs.Reading.{goodStart, begins, allButSum, lacksSum, reading}
 use Rattle.link_claims.proofs.Sound.{no}
 use Rattle.link_claims.specs.Frames.{frame, readFrom, ReadsOwn, Good, a-heartbeat, a-status, a-baud, a-control, a-data, Longer, StartsAre}
 
@@ -76,7 +76,7 @@ reads-own = record { heartbeats = heartbeat-read; statuses = status-read; data-f
 start-parts : (t : ℕ) (cs : List ℕ) → goodStart (t ∷ cs) ≡ true → (known t (getD cs 0 0) ≡ true) × (suc (length cs) ≤ size t (getD cs 0 0))
 unfolding goodStart begins
 start-parts t cs e =
-    let a = and-both (known t (getD cs 0 0)) _ (rw eqb·suc-zero at e) in
+    let a = both (known t (getD cs 0 0)) _ (rw eqb·suc-zero at e) in
     (a .0, leb-true (suc (length cs)) (size t (getD cs 0 0)) (a .1))
 
 -- bytes zs that lack for a good frame, and its checksum

@@ -10,17 +10,26 @@ use borrow.Author.Tests.{eqb-true, le-leb}
 use Rattle.lists.specs.Bytes.{allAre}
 use Rattle.lists.specs.Checks.{Check, first}
 use Rattle.fields.specs.Checksum.{xored}
-use Rattle.link.specs.Clock.{stillDead}
-use Rattle.link.specs.Frames.{heartbeat, status, dataFrame}
-use Rattle.link.specs.Reading.{goodStart, begins, allButSum, more, whole, wrong, reading}
-use Rattle.link.specs.Answers.{nothing, confirmed, failed, refused, ended, Move, move, done, refusing, padded}
-use Rattle.link.specs.Link.{byPhase, store, heldOf, atRest, fresh, inBaud, inOpen, renewed, kept, withRpc, withOutstanding, withDead, onList, fitsPhase, holderGood, sound}
-use Rattle.link.specs.Step.{answers, broken, lost, checked, pulled, baudFrame, statusFrame, controlFrame, takenData, openFrame, wholeFrame, byReading, heard, listens, received, checks, sendChecks, call, pullStep, byteStep, pollStep, sendStep}
-use Rattle.link.specs.declared.Link.{Link}
-use Rattle.link.specs.declared.Phase.{Phase}
-use Rattle.link.specs.declared.Phase.the-variants.{Start, Baud, Open}
-use Rattle.link.proofs.Holder.{lacks-held, held-kept, zero-kept}
-use Rattle.link.proofs.Ways.{and-both, held-good, space-left}
+use Rattle.lists.proofs.Tests.{both}
+use Rattle.link_frames.specs.Frames.{heartbeat, status, dataFrame}
+use Rattle.link_frames.specs.Reading.{goodStart, begins, allButSum, more, whole, wrong, reading, byReading}
+use Rattle.link_frames.proofs.Holder.{lacks-held}
+use Rattle.link_state.specs.Clock.{stillDead}
+use Rattle.link_state.specs.Link.{byPhase, store, heldOf, atRest, fresh, inBaud, inOpen, renewed, kept, withRpc, withOutstanding, withDead}
+use Rattle.link_state.specs.Silence.{lost, checked}
+use Rattle.link_state.specs.Sound.{onList, fitsPhase, holderGood, sound}
+use Rattle.link_state.specs.Refusals.{checks, sendChecks}
+use Rattle.link_state.proofs.Sound.{held-good}
+use Rattle.link_turns.specs.Moves.{nothing, confirmed, failed, refused, ended, Move, move, padded}
+use Rattle.link_turns.specs.Turns.{answers, broken, pulled, baudFrame, statusFrame, controlFrame, takenData, openFrame, listens}
+use Rattle.link.specs.Answers.{done, refusing}
+use Rattle.link.specs.Hearing.{wholeFrame, heard, received}
+use Rattle.link.specs.Step.{call, pullStep, byteStep, pollStep, sendStep}
+use Rattle.link.proofs.Kept.{held-kept, zero-kept}
+use Rattle.link.proofs.Hearing.{space-left}
+use Rattle.link_state.specs.declared.Link.{Link}
+use Rattle.link_state.specs.declared.Phase.{Phase}
+use Rattle.link_state.specs.declared.Phase.the-variants.{Start, Baud, Open}
 use Rattle.link_claims.specs.Calls.{Call, pull, byte, poll, send, step, after}
 use Rattle.link_claims.specs.Sound.{NeverRefused}
 
@@ -37,8 +46,8 @@ pub record Parts (l : Link) : Type 0 where
 pub parts : (l : Link) → sound l ≡ true → length (l .frame) ≡ 65 → Parts l
 unfolding sound
 parts l e n =
-    let a = and-both (holderGood (l .held) (store l)) _ e in
-    let b = and-both (onList (l .rate)) _ (a .1) in
+    let a = both (holderGood (l .held) (store l)) _ e in
+    let b = both (onList (l .rate)) _ (a .1) in
     record { holder = a .0; rate = b .0; phase = b .1; long = n }
 
 pub whole-again : (l : Link) → Parts l → sound l ≡ true
@@ -54,7 +63,7 @@ unfolding fitsPhase
 fits-empty Start true r o rate n e = e
 fits-empty Start false true o rate n e = e
 fits-empty Start false false true rate n e = e
-fits-empty Start false false false rate n e = rw (and-both (eqb rate 9600) (eqb n 0) e .0)
+fits-empty Start false false false rate n e = rw (both (eqb rate 9600) (eqb n 0) e .0)
 fits-empty Baud d r o rate n e = e
 fits-empty Open d r o rate n e = e
 

@@ -3,7 +3,7 @@ use mathlib.Core.List.{List, [], _∷_}
 use Prim.Native.Nat.{ℕ}
 use Rattle.link.specs.Answers.{Step}
 use Rattle.link.specs.Step.{pullStep, byteStep, pollStep, sendStep}
-use Rattle.link.specs.declared.Link.{Link}
+use Rattle.link_state.specs.declared.Link.{Link}
 
 -- a call: a byte that is received or bytes that are to be sent, the tick, and the answer buffer that is lent
 pub data Call : Type 0 where

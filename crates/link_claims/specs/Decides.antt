@@ -4,9 +4,9 @@ use mathlib.Core.List.{List, _∷_}
 use mathlib.Core.Bool.{true, false}
 use Prim.Native.Nat.{ℕ, _≤_}
 use lib.ListN.{length}
-use Rattle.link.specs.Link.{sound}
+use Rattle.link_state.specs.Sound.{sound}
 use Rattle.link.specs.Step.{byteStep}
-use Rattle.link.specs.declared.Link.{Link}
+use Rattle.link_state.specs.declared.Link.{Link}
 
 -- a byte that comes, with buffer enough for an answer
 pub record Coming : Type 0 where

@@ -5,9 +5,8 @@ use mathlib.Core.Bool.{true}
 use mathlib.Core.Logic.{_↔_}
 use Prim.Native.Nat.{ℕ, _≤_, _<_}
 use lib.ListN.{length}
-use Rattle.link.specs.Frames.{frameOf, heartbeat, status, control, dataFrame}
-use Rattle.link.specs.Reading.{reading, goodStart}
-use Rattle.link.specs.Step.{byReading}
+use Rattle.link_frames.specs.Frames.{frameOf, heartbeat, status, control, dataFrame}
+use Rattle.link_frames.specs.Reading.{reading, goodStart, byReading}
 
 -- what bytes that come one by one are first read as: a frame, all of it but the checksum, or an error, with the bytes after it; or they are still held
 pub data Read : Type 0 where

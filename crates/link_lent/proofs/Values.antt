@@ -3,11 +3,11 @@ use mathlib.Core.List.{[], _∷_}
 use mir.Val.{Val}
 use denote.Laws.{Is}
 use denote.Struct.Laws as LL
-use Rattle.link.specs.declared.Link.{Link}
+use Rattle.link_state.specs.declared.Link.{Link}
 use Rattle.link.specs.declared.Next.{Next}
 use Rattle.link.specs.declared.Told.{Told}
-use Rattle.link.proofs.Link as T
-use Rattle.link.proofs.Link.Laws as T′
+use Rattle.link_state.proofs.Link as T
+use Rattle.link_state.proofs.Link.Laws as T′
 use Rattle.link.proofs.Next as N
 use Rattle.link.proofs.Next.Laws as N′
 use Rattle.link.proofs.Told as D

@@ -99,8 +99,8 @@ fn list_some(
 // A proved loop has to end, and nothing says that an input does. So the loop counts its reads down, from a number that no
 // run uses up.
 fn main() {
-    let mut packet = [0u8; 4120];
-    let mut answer = [0u8; 22];
+    let mut packet = [0u8; framing::LONGEST];
+    let mut answer = [0u8; loader::LONGEST_ANSWER];
     let mut flash = [0xFFu8; 65536];
     let mut words = [0u32; 4096];
     let mut state = report::new();

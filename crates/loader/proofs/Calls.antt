@@ -1,4 +1,4 @@
--- The ways through a call: refused, a byte taken, a packet dropped, failed or carried out.
+-- The ways through a call: refused, a byte taken, a packet dropped, or obeyed and answered.
 use Prim.Native.Nat.{ℕ, _≤_}
 use mathlib.Core.Path.{_≡_, refl, sym, ap, _∙_}
 use mathlib.Core.List.{List, [], _∷_, _++_}
@@ -18,18 +18,20 @@ use Rattle.framing.specs.declared.Stepped.{Stepped}
 use Rattle.framing.specs.declared.Closing.the-variants.{Open, Whole, Broken}
 use Rattle.framing.proofs.Steps.{step-held}
 use Rattle.commands.specs.Header.{command}
-use Rattle.loader.specs.Session.{sessionGood}
-use Rattle.loader.specs.Refusals.{BufferLengths, lengthsOf, wordCount, bufferChecks, recordGood, refusal}
-use Rattle.loader.specs.Errors.{errorOf}
-use Rattle.loader.specs.Answer.{answerBytes}
-use Rattle.loader.specs.Handle.{lengths, carriedOut, failed, handle}
+use Rattle.sessions.specs.Session as sessions
+use Rattle.sessions.specs.Session.{sessionGood}
+use Rattle.loader.specs.Refusals.{BufferLengths, lengthsOf, bufferChecks, recordGood, refusal}
+use Rattle.answers.specs.Answer.{answerBytes}
+use Rattle.answers.specs.Reply.{longestAnswer, Replies}
+use Rattle.answers.proofs.Replies.{sent-whole, laid-whole}
+use Rattle.effects.specs.Core.{Core, lengths, ifSound}
+use Rattle.effects.specs.Handle.{handle, Does}
 use Rattle.loader.specs.Step.{Feeds, step, refusing, afterByte, afterPacket, coreOf, bufferLengths, answerBuffer, toldOf}
-use Rattle.loader.specs.Parts.{classified, Does, Replies, Acts}
+use Rattle.loader.specs.Parts.{classified, Acts}
 use Rattle.loader.specs.declared.Loader.{Loader}
-use Rattle.loader.specs.declared.Note.the-variants.{Nothing}
 use Rattle.loader.specs.declared.Answer.the-variants.{Refused, Taken, Dropped, Answered}
 use Rattle.loader.specs.declared.Fed.{Fed}
-use Rattle.loader.specs.declared.Done.{Done}
+use Rattle.effects.specs.declared.Done.{Done}
 use Rattle.loader.specs.declared.Packet.the-variants as code
 use Rattle.loader.specs.declared.Packet as code-packet
 
@@ -45,6 +47,11 @@ unheaded : (p : List ℕ) (t : Bool) → classified (cond t (read p) dropped) �
 unheaded p true e = let z : _≡_ {A = ℕ} 0 1 = cc in absurd (omega arith)
 unheaded p false e = refl
 
+-- a core whose session refusal 5 lets pass
+sound-core : (c : Core) → sessionGood (lengths c) (c .session) ≡ true → ifSound c ≡ c
+unfolding sessions.ifSound
+sound-core c h = rw h
+
 module _
     (loader : Loader) (p buffer flash words : List ℕ) (x : code-packet.Packet) (is : x ≡ classified (header (some p))) where
   pub acts-dropped :
@@ -56,62 +63,51 @@ module _
       rw (unheaded p (leb 8 (length p) && eqb (getD p 0 0) 0) (sym is ∙ e))
       (record { says = refl; hands-back = refl; answer-buffer = refl; in-flash = refl; in-words = refl })
 
-  module _ (n error sent : ℕ) (after : List ℕ) (e : x ≡ code.Read n)
-      (judged : error ≡ errorOf (lengths (coreOf loader flash words)) (loader .session) p) where
-    packet-read : (header (some p) ≡ read p) × (n ≡ command p)
-    unfolding header
-    packet-read = headed p (leb 8 (length p) && eqb (getD p 0 0) 0) n (sym is ∙ e)
+  packet-read : (n : ℕ) → x ≡ code.Read n → (header (some p) ≡ read p) × (n ≡ command p)
+  unfolding header
+  packet-read n e = headed p (leb 8 (length p) && eqb (getD p 0 0) 0) n (sym is ∙ e)
 
-    pub acts-failed :
-        (error ≡ 0 → ⊥) → Replies (answerBytes n error 0) buffer sent after
-        → Acts (handle (coreOf loader flash words) (header (some p))) loader (length p) buffer
-        (record { answer = Answered (length p) n error sent Nothing; loader = loader }) after flash words
-    unfolding handle failed toldOf answerBuffer
-    acts-failed bad r =
-        rw (packet-read .0, ← judged, ne-eqb error 0 bad, ← (packet-read .1))
-        (record { says = rw (r .sent); hands-back = refl; answer-buffer = r .buffer; in-flash = refl; in-words = refl })
-
-    pub acts-done :
-        (done : Done) (flash′ words′ : List ℕ) → error ≡ 0
-        → Does (carriedOut (coreOf loader flash words) p) (command p) done flash′ words′
-        → Replies (answerBytes n 0 (done .value)) buffer sent after
-        → Acts (handle (coreOf loader flash words) (header (some p))) loader (length p) buffer
-        (record {
-          answer = Answered (length p) n 0 sent (done .note);
-          loader = record { line = loader .line; session = done .session; attach = done .attach };
-        }) after flash′ words′
-    unfolding handle toldOf answerBuffer
-    acts-done done flash′ words′ good d r =
-        rw (packet-read .0, ← judged, eq-eqb error 0 good)
-        (record {
-          says = rw (d .reply, r .sent, packet-read .1);
-          hands-back = rw (d .session, d .attach);
-          answer-buffer = rw (d .reply, ← (packet-read .1)) (r .buffer);
-          in-flash = d .in-flash;
-          in-words = d .in-words;
-        })
+  pub acts-read :
+      (n sent : ℕ) (done : Done) (after flash′ words′ : List ℕ) → x ≡ code.Read n → longestAnswer ≤ length buffer
+      → sessionGood (lengths (coreOf loader flash words)) (loader .session) ≡ true
+      → Does (handle (ifSound (coreOf loader flash words)) (read p)) (command p) done flash′ words′
+      → Replies (answerBytes n (done .error) (done .value)) buffer sent after
+      → Acts (handle (coreOf loader flash words) (header (some p))) loader (length p) buffer
+      (record {
+        answer = Answered (length p) n (done .error) sent (done .note);
+        loader = record { line = loader .line; session = done .session; attach = done .attach };
+      }) after flash′ words′
+  unfolding toldOf answerBuffer
+  acts-read n sent done after flash′ words′ e fits sound does r =
+      let h = packet-read n e in
+      let d : Does (handle (coreOf loader flash words) (read p)) (command p) done flash′ words′ = rw (sound-core (coreOf loader flash words) sound) at does in
+      rw (h .0)
+      (record {
+        says = rw (d .reply, sent-whole n (done .error) (done .value) sent buffer after fits r, h .1);
+        hands-back = rw (d .session, d .attach);
+        answer-buffer = rw (d .reply, ← (h .1)) (laid-whole n (done .error) (done .value) sent buffer after fits r);
+        in-flash = d .in-flash;
+        in-words = d .in-words;
+      })
 
 -- ---- a call
 
 -- what no refusal leaves to doubt
 pub record Allowed (r : Loader) (buffers : BufferLengths) : Type 0 where
   pub for-packet : longest ≤ buffers .packet
-  pub for-answer : 22 ≤ buffers .answer
-  pub for-words : buffers .words ≤ 16384
+  pub for-answer : longestAnswer ≤ buffers .answer
   pub held : r .line .held ≤ longest
   pub session : sessionGood (lengthsOf buffers) (r .session) ≡ true
 
 pub allowed : (r : Loader) (buffers : BufferLengths) → refusal r buffers ≡ 0 → Allowed r buffers
-unfolding refusal bufferChecks wordCount recordGood
+unfolding refusal bufferChecks recordGood
 allowed r buffers e =
     let t : Passed (bufferChecks buffers ++ (recordGood (lengthsOf buffers) r orElse 5 ∷ [])) = first-passed _ refl e in
-    let w = both (leb 1 (buffers .words)) _ (t .1 .1 .1 .0) in
     let g = both (leb (r .line .held) longest) _ (t .1 .1 .1 .1 .0) in
     let s = both (sessionGood (lengthsOf buffers) (r .session)) _ (g .1) in
     record {
       for-packet = leb-true _ _ (t .0);
       for-answer = leb-true _ _ (t .1 .0);
-      for-words = leb-true _ _ (w .1);
       held = leb-true _ _ (g .0);
       session = s .0;
     }
@@ -166,12 +162,12 @@ module _
         omega arith
 
     pub packet-acted :
-        (m : ℕ) (r : Fed) (a f w : List ℕ) → s .closing ≡ Whole m → m ≤ length packet′
+        (m : ℕ) (r : Fed) (a f w : List ℕ) → s .closing ≡ Whole m → length packet′ ≡ length packet
         → Acts (handle (coreOf next flash words) (header (some (take m packet′)))) next (length (take m packet′)) answer r a f w
         → Feeds (step loader b packet answer flash words) r packet′ a f w
     unfolding afterByte afterPacket
-    packet-acted m r a f w e fits h =
-        let q : length (take m packet′) ≡ m = length-take-le m packet′ fits in
+    packet-acted m r a f w e long h =
+        let q : length (take m packet′) ≡ m = length-take-le m packet′ (whole-fits m e long) in
         going-on r a f w
         (rw e
         (record {

@@ -10,7 +10,7 @@ use Rattle.framing.specs.Line.{stepOf}
 use Rattle.framing.specs.declared.Line.{Line}
 use Rattle.framing.specs.declared.Closing.{Closing}
 use Rattle.framing.specs.declared.Closing.the-variants.{Open, Whole, Broken}
-use Rattle.loader.specs.Handle.{Reply, nothing, replied, failed, handle}
+use Rattle.effects.specs.Handle.{Reply, nothing, replied, failed, handle}
 use Rattle.loader.specs.Refusals.{refusal}
 use Rattle.loader.specs.Step.{refused, step, refusing, bufferLengths, toldOf, afterPacket, afterByte}
 use Rattle.loader.specs.Theorems.{RefusedChangesNothing, FailedChangesNothing}

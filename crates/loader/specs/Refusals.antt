@@ -6,8 +6,9 @@ use lib.Dec.{leb, eqb}
 use Rattle.lists.specs.Checks.{Check, _orElse_, first}
 use Rattle.fields.specs.Pins.{attachGood}
 use Rattle.framing.specs.Frame.{longest}
-use Rattle.commands.specs.declared.Lengths.{Lengths}
-use Rattle.loader.specs.Session.{sessionGood}
+use Rattle.begins.specs.declared.Lengths.{Lengths}
+use Rattle.sessions.specs.Session.{sessionGood}
+use Rattle.answers.specs.Reply.{longestAnswer}
 use Rattle.loader.specs.declared.Loader.{Loader}
 
 -- the lengths of what a call lends: packet buffer, answer buffer, flash, words
@@ -33,7 +34,7 @@ wordCount n = leb 1 n && leb n 16384
 unfoldable pub bufferChecks : BufferLengths → List Check
 bufferChecks r =
     leb longest (r .packet) orElse 1
-    ∷ leb 22 (r .answer) orElse 2
+    ∷ leb longestAnswer (r .answer) orElse 2
     ∷ flashLength (r .flash) orElse 3
     ∷ wordCount (r .words) orElse 4
     ∷ []

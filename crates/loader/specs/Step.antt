@@ -15,11 +15,12 @@ use Rattle.framing.specs.declared.Line.{Line}
 use Rattle.framing.specs.declared.Closing.{Closing}
 use Rattle.framing.specs.declared.Closing.the-variants.{Open, Whole, Broken}
 use Rattle.loader.specs.Refusals.{BufferLengths, refusal}
-use Rattle.loader.specs.Answer.{statusOf, answerBytes}
-use Rattle.loader.specs.Handle.{Core, Reply, nothing, replied, Handled, handle}
+use Rattle.answers.specs.Answer.{statusOf, answerBytes}
+use Rattle.effects.specs.Core.{Core}
+use Rattle.effects.specs.Handle.{Reply, nothing, replied, Handled, handle}
 use Rattle.loader.specs.declared.Loader.{Loader}
-use Rattle.loader.specs.declared.Session.the-variants.{Closed}
-use Rattle.loader.specs.declared.Note.{Note}
+use Rattle.sessions.specs.declared.Session.the-variants.{Closed}
+use Rattle.effects.specs.declared.Note.{Note}
 use Rattle.loader.specs.declared.Answer.{Answer}
 use Rattle.loader.specs.declared.Answer.the-variants as code
 use Rattle.loader.specs.declared.Fed.{Fed}

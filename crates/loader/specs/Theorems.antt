@@ -4,12 +4,13 @@ use mathlib.Core.List.{List}
 use Prim.Native.Nat.{ℕ}
 use Rattle.framing.specs.Packets.{read}
 use Rattle.commands.specs.Header.{command}
-use Rattle.loader.specs.Errors.{errorOf}
-use Rattle.loader.specs.Handle.{Core, lengths, handle, replied}
+use Rattle.sessions.specs.Errors.{errorOf}
+use Rattle.effects.specs.Core.{Core, lengths}
+use Rattle.effects.specs.Handle.{handle, replied}
 use Rattle.loader.specs.Refusals.{refusal}
 use Rattle.loader.specs.Step.{refused, step, refusing, bufferLengths}
 use Rattle.loader.specs.declared.Loader.{Loader}
-use Rattle.loader.specs.declared.Note.the-variants.{Nothing}
+use Rattle.effects.specs.declared.Note.the-variants.{Nothing}
 
 -- "A bad call gets its number from document 01 and changes nothing that was lent or handed over."
 abbrev pub RefusedChangesNothing : Type 0

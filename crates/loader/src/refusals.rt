@@ -1,8 +1,10 @@
 // Refusals 1 to 5.
 use crate::Loader;
-use crate::sessions::session_good;
-use commands::Lengths;
+use answers::LONGEST_ANSWER;
+use begins::Lengths;
+use framing::LONGEST;
 use lists::check;
+use sessions::session_good;
 ghost use mathlib.Core.Path.{_≡_};
 ghost use Rattle.loader.specs.Refusals.{flashLength, wordCount, recordGood, refusal};
 
@@ -23,7 +25,7 @@ fn record_good(lengths: Lengths, loader: Loader) -> bool
 {
     let line = loader.line;
     let session = loader.session;
-    (line.held <= 4120) & (session_good(lengths, session) & fields::attach_good(loader.attach))
+    (line.held <= LONGEST) & (session_good(lengths, session) & fields::attach_good(loader.attach))
 }
 
 // The number that a call is refused with, by its record and the lengths of its buffers; 0 where it is not.
@@ -32,10 +34,10 @@ pub fn refusal_of(loader: Loader, packet: usize, answer: usize, flash: usize, wo
 {
     let lengths = Lengths { flash, words };
     check(
-        4120 <= packet,
+        LONGEST <= packet,
         1,
         check(
-            22 <= answer,
+            LONGEST_ANSWER <= answer,
             2,
             check(
                 flash_length_good(flash),

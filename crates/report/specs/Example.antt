@@ -3,7 +3,7 @@ use Prim.Native.Nat.{ℕ}
 use mathlib.Core.Path.{_≡_}
 use mathlib.Core.List.{[], _∷_}
 use Rattle.loader.specs.Step.{dropped, answered}
-use Rattle.loader.specs.declared.Note.{Note}
+use Rattle.effects.specs.declared.Note.{Note}
 use Rattle.report.specs.Lines.{lineOf}
 
 pub record Example : Type 0 where

@@ -7,7 +7,7 @@ ghost use mathlib.Core.List.{_++_};
 ghost use Prim.Native.Nat.{_+_, _≤_, _<_};
 ghost use lib.ListN.{length};
 ghost use Rattle.lists.specs.Lay.{lay};
-ghost use Rattle.loader.specs.Answer.{statusOf};
+ghost use Rattle.answers.specs.Answer.{statusOf};
 ghost use Rattle.loader.specs.Step.{told, step};
 ghost use Rattle.report.specs.Numbers.{hexDigit, hex2, decimal};
 ghost use Rattle.report.specs.Lines.{heading as Lines·heading};

@@ -1,215 +1,176 @@
-// A fresh loader that is fed line bytes.
-use crate::show::compared;
-use crate::show::within;
+// The operations on line bytes: frames, a loader that is fed, and the flash that it leaves.
+use crate::names;
+use crate::plain::number_at;
+use crate::show::Outcome;
+use crate::table::LONGEST_FIELD;
+use crate::table::part;
+use framing::Closing;
 use framing::Framed;
+use framing::LONGEST;
 use loader::Answer;
-use loader::Loader;
-ghost use Prim.Native.Nat.{_≤_, _<_};
-ghost use lib.ListN.{length};
 
-// The error of a call that answers nothing: no command has it.
+// The buffer of what operations give: bytes at its front, and behind a field's the flash that the last loader left.
+const FLASH_LENGTH: usize = 65536;
+
+pub const GOT: usize = LONGEST_FIELD + FLASH_LENGTH;
+
+// The error of a call that does not answer: no command has it.
 const SILENT: u8 = 0xEE;
 
-// The loader after a run of bytes, how many packets were closed, and of the last call the error and how many bytes it sent.
-pub struct Ran {
-    pub loader: Loader,
-    pub closed: usize,
-    pub error: u8,
-    pub sent: usize,
+// Of some calls: whether a packet was closed, the bits of all their errors; of the last one, whether it did not answer, and how
+// many bytes it sent.
+struct Said {
+    closed: u8,
+    errors: u8,
+    silent: u8,
+    sent: usize,
 }
 
-// How many packets a call closed.
-fn closings(answer: Answer) -> usize
-    ensures { λ r. ⌜ r ≤ 1 ⌝ }
-{
+fn joined(said: Said, answer: Answer) -> Said {
     match answer {
-        Answer::Refused(_) => 0,
-        Answer::Taken => 0,
-        Answer::Dropped { stored: _ } => 1,
-        Answer::Answered {
-            stored: _,
-            command: _,
-            error: _,
-            sent: _,
-            note: _,
-        } => 1,
-    }
-}
-
-// The error of an answer.
-fn error_of(answer: Answer) -> u8 {
-    match answer {
-        Answer::Refused(_) => SILENT,
-        Answer::Taken => SILENT,
-        Answer::Dropped { stored: _ } => SILENT,
+        Answer::Refused(_) => Said {
+            closed: said.closed,
+            errors: SILENT,
+            silent: SILENT,
+            sent: 0,
+        },
+        Answer::Taken => Said {
+            closed: said.closed,
+            errors: said.errors,
+            silent: SILENT,
+            sent: 0,
+        },
+        Answer::Dropped { stored: _ } => Said {
+            closed: 1,
+            errors: SILENT,
+            silent: SILENT,
+            sent: 0,
+        },
         Answer::Answered {
             stored: _,
             command: _,
             error,
-            sent: _,
-            note: _,
-        } => error,
-    }
-}
-
-// How many bytes an answer has sent.
-fn sent_of(answer: Answer) -> usize {
-    match answer {
-        Answer::Refused(_) => 0,
-        Answer::Taken => 0,
-        Answer::Dropped { stored: _ } => 0,
-        Answer::Answered {
-            stored: _,
-            command: _,
-            error: _,
             sent,
             note: _,
-        } => sent,
+        } => Said {
+            closed: 1,
+            errors: said.errors | error,
+            silent: 0,
+            sent,
+        },
     }
 }
 
-// Feeds a run of line bytes.
-pub fn feed_all(
-    loader: Loader,
-    line: &[u8],
-    packet: &mut [u8],
-    answer: &mut [u8],
-    flash: &mut [u8],
-    words: &mut [u32],
-) -> Ran {
-    let mut state = loader;
-    let mut closed: usize = 0;
-    let mut error: u8 = SILENT;
-    let mut sent: usize = 0;
-    let mut i: usize = 0;
-    while i < line.len() {
-        let fed = loader::feed(state, line[i], packet, answer, flash, words);
-        state = fed.loader;
-        let said = fed.answer;
-        closed += closings(said);
-        error = error_of(said);
-        sent = sent_of(said);
-        i += 1;
-    }
-    Ran {
-        loader: state,
-        closed,
-        error,
-        sent,
-    }
-}
-
-// What a fresh loader answers last to a run of line bytes.
-pub fn answered(source: &[u8], name: &[u8], line: &[u8], expected: &[u8]) {
-    let mut packet = [0u8; 4120];
-    let mut answer = [0u8; 22];
-    let mut flash = [0xFFu8; 65536];
+// Feeds a fresh loader, over flash and words of zeros, and keeps its flash.
+fn run(bytes: &[u8], got: &mut [u8]) -> Said {
+    let mut packet = [0u8; LONGEST];
+    let mut flash = [0u8; FLASH_LENGTH];
     let mut words = [0u32; 4096];
-    let ran = feed_all(
-        loader::new(),
-        line,
-        &mut packet,
-        &mut answer,
-        &mut flash,
-        &mut words,
-    );
-    let n = within(ran.sent, &answer);
-    compared(source, name, expected, &answer[..n]);
-}
-
-// Frames a request and feeds it.
-fn send(
-    loader: Loader,
-    request: &[u8],
-    packet: &mut [u8],
-    answer: &mut [u8],
-    flash: &mut [u8],
-    words: &mut [u32],
-) -> Ran {
-    let mut line = [0u8; 8242];
-    let Framed::Written(n) = framing::frame(request, &mut line) else {
-        return Ran {
-            loader,
-            closed: 0,
-            error: SILENT,
-            sent: 0,
-        };
+    let mut state = loader::new();
+    let mut said = Said {
+        closed: 0,
+        errors: 0,
+        silent: SILENT,
+        sent: 0,
     };
-    let k = within(n, &line);
-    feed_all(loader, &line[..k], packet, answer, flash, words)
-}
-
-// A run of bytes set to one value.
-fn fill(buffer: &mut [u8], from: usize, upto: usize, value: u8)
-    requires { ⌜ (from ≤ upto) × (upto ≤ length (now buffer)) ⌝ }
-{
-    let mut i = from;
-    while i < upto {
-        buffer[i] = value;
+    let mut i: usize = 0;
+    while i < bytes.len() {
+        let fed = loader::feed(state, bytes[i], &mut packet, got, &mut flash, &mut words);
+        let answer = fed.answer;
+        state = fed.loader;
+        said = joined(said, answer);
         i += 1;
     }
+    lists::copy_at(got, LONGEST_FIELD, &flash);
+    said
 }
 
-// Sends FLASH_DATA with a block whose data are its sequence number XOR 5A, padded by 0xFF.
-fn send_block(
-    loader: Loader,
-    sequence: u8,
-    size: u32,
-    kept: u32,
-    packet: &mut [u8],
-    answer: &mut [u8],
-    flash: &mut [u8],
-    words: &mut [u32],
-) -> Ran
-    requires { ⌜ (size ≤ 4096) × (kept ≤ size) ⌝ }
-{
-    let mut request = [0u8; 4120];
-    let body = fields::bytes_of(size + 16);
-    let announced = fields::bytes_of(size);
-    request[1] = 0x03;
-    request[2] = body[0];
-    request[3] = body[1];
-    request[8] = announced[0];
-    request[9] = announced[1];
-    request[12] = sequence;
-    let data_end = 24 + kept as usize;
-    let n = 24 + size as usize;
-    fill(&mut request, 24, data_end, sequence ^ 0x5A);
-    fill(&mut request, data_end, n, 0xFF);
-    request[4] = fields::checksum_from(&request[..n], 24);
-    send(loader, &request[..n], packet, answer, flash, words)
-}
-
-// How many bytes of a block are data: all of them but in the last block.
-fn kept_of(k: u8, count: u8, size: u32, last: u32) -> u32
-    requires { ⌜ (k < count) × (last ≤ size) ⌝ }
-    ensures { λ r. ⌜ r ≤ size ⌝ }
-{
-    if k + 1 < count { size } else { last }
-}
-
-// Sends the blocks of a flash load, the last with fewer data; the bits of all their errors.
-pub fn send_blocks(
-    loader: Loader,
-    count: u8,
-    size: u32,
-    last: u32,
-    packet: &mut [u8],
-    answer: &mut [u8],
-    flash: &mut [u8],
-    words: &mut [u32],
-) -> u8
-    requires { ⌜ (size ≤ 4096) × (last ≤ size) ⌝ }
-{
-    let mut state = loader;
-    let mut errors: u8 = 0;
-    let mut k: u8 = 0;
-    while k < count {
-        let kept = kept_of(k, count, size, last);
-        let ran = send_block(state, k, size, kept, packet, answer, flash, words);
-        state = ran.loader;
-        errors |= ran.error;
-        k += 1;
+fn whole(closing: Closing) -> usize {
+    match closing {
+        Closing::Open => 0,
+        Closing::Whole(n) => n,
+        Closing::Broken(_) => 0,
     }
-    errors
+}
+
+// The packet that the last of some line bytes closes.
+fn unframe(bytes: &[u8], got: &mut [u8]) -> usize {
+    let mut line = framing::new();
+    let mut closing = Closing::Open;
+    let mut i: usize = 0;
+    while i < bytes.len() {
+        let stepped = framing::step(line, bytes[i], got);
+        line = stepped.line;
+        closing = stepped.closing;
+        i += 1;
+    }
+    whole(closing)
+}
+
+fn frame(bytes: &[u8], got: &mut [u8]) -> usize {
+    let Framed::Written(n) = framing::frame(bytes, got) else {
+        return 0;
+    };
+    n
+}
+
+pub fn on_line(operation: u8, input: &[u8], got: &mut [u8]) -> Outcome {
+    if operation == names::FRAME {
+        return Outcome::Front(frame(input, got));
+    }
+    if operation == names::UNFRAME {
+        return Outcome::Front(unframe(input, got));
+    }
+    let said = run(input, got);
+    match operation {
+        names::ANSWER => Outcome::Front(said.sent),
+        names::CLOSES => Outcome::Byte(said.closed),
+        _ => Outcome::Byte(said.errors | said.silent),
+    }
+}
+
+// The flash's bytes from one address up to another; none where these are not its addresses in order.
+fn kept(got: &[u8], from: u32, upto: u32) -> &[u8] {
+    part(
+        got,
+        LONGEST_FIELD + from as usize,
+        LONGEST_FIELD + upto as usize,
+    )
+}
+
+// 0xFF where the flash is erased from one address up to another.
+fn erased(bytes: &[u8], got: &[u8]) -> Outcome {
+    let stretch = kept(got, number_at(bytes, 0), number_at(bytes, 4));
+    if stretch.len() == 0 {
+        return Outcome::Unknown;
+    }
+    if lists::all_from(stretch, 0, 0xFF) {
+        return Outcome::Byte(0xFF);
+    }
+    Outcome::Byte(0)
+}
+
+// The flash's byte at an address, 0 past its end.
+fn flash_byte(got: &[u8], address: u32) -> u8 {
+    let at = LONGEST_FIELD + address as usize;
+    if at < got.len() { got[at] } else { 0 }
+}
+
+// The flash's bytes at some addresses.
+fn flash_at(bytes: &[u8], got: &mut [u8]) -> Outcome {
+    let count = bytes.len() / 4;
+    let mut n: usize = 0;
+    while n < count {
+        let byte = flash_byte(got, number_at(bytes, n * 4));
+        lists::fill(got, n, n + 1, byte);
+        n += 1;
+    }
+    Outcome::Front(n)
+}
+
+pub fn on_flash(operation: u8, input: &[u8], got: &mut [u8]) -> Outcome {
+    if operation == names::FLASH {
+        return flash_at(input, got);
+    }
+    erased(input, got)
 }

@@ -1,10 +1,18 @@
 // The lines that are printed.
-use framing::Closing;
-use framing::Framed;
+use crate::table::LONGEST_FIELD;
+use crate::table::MALFORMED;
+use crate::table::Row;
+use crate::table::decode;
+use crate::table::part;
 use libc::STDOUT_FILENO;
-ghost use mathlib.Core.Path.{_≡_};
-ghost use Prim.Native.Nat.{_≤_};
-ghost use lib.ListN.{length, take};
+
+// What an operation gave: a byte, a number, some bytes at the front of the buffer lent; or that there is no such operation.
+pub enum Outcome {
+    Byte(u8),
+    Word(u32),
+    Front(usize),
+    Unknown,
+}
 
 fn print_hex(bytes: &[u8]) {
     let mut i: usize = 0;
@@ -15,85 +23,59 @@ fn print_hex(bytes: &[u8]) {
     }
 }
 
-// The line of a vector: its source, its name, the bytes that were expected, and whether they came.
-pub fn compared(source: &[u8], name: &[u8], expected: &[u8], got: &[u8]) {
-    io::write_all(STDOUT_FILENO, source);
-    io::write_all(STDOUT_FILENO, b"\t");
-    io::write_all(STDOUT_FILENO, name);
-    io::write_all(STDOUT_FILENO, b"\t");
-    print_hex(expected);
+// A line of the table that is not as the table's head says.
+pub fn bad_line(line: &[u8]) {
+    io::write_all(STDOUT_FILENO, b"BAD LINE\t");
+    io::write_all(STDOUT_FILENO, line);
+}
+
+// Whether the bytes came that were expected.
+fn compared(expected: &[u8], got: &[u8]) {
     if lists::same(expected, got) {
         io::write_all(STDOUT_FILENO, b"\tok\n");
-    } else {
-        io::write_all(STDOUT_FILENO, b"\tWRONG\n");
+        return;
     }
+    io::write_all(STDOUT_FILENO, b"\tWRONG\t");
+    print_hex(got);
+    io::write_all(STDOUT_FILENO, b"\n");
+}
+
+// The line of a vector: its source and its name, each with its tab, the bytes that were expected, and whether they came.
+fn report_row(line: &[u8], row: Row, got: &[u8]) {
+    let mut buffer = [0u8; LONGEST_FIELD];
+    let n = decode(part(line, row.expected, line.len()), &mut buffer);
+    if n == MALFORMED {
+        bad_line(line);
+        return;
+    }
+    let expected = part(&buffer, 0, n);
+    io::write_all(STDOUT_FILENO, part(line, 0, row.operation));
+    print_hex(expected);
+    compared(expected, got);
 }
 
 // A word's bytes as its digits are written, the highest first.
-fn high_first(word: u32) -> fields::WordBytes {
+pub fn high_first(word: u32) -> fields::WordBytes {
     let b = fields::bytes_of(word);
     [b[3], b[2], b[1], b[0]]
 }
 
-// The same of a word, written as a number.
-pub fn compared_word(source: &[u8], name: &[u8], expected: u32, got: u32) {
-    let e = high_first(expected);
-    let g = high_first(got);
-    compared(source, name, &e, &g);
-}
-
-// The same of one byte.
-pub fn compared_byte(source: &[u8], name: &[u8], expected: u8, got: u8) {
-    let e = [expected];
-    let g = [got];
-    compared(source, name, &e, &g);
-}
-
-// A length that was told, as a number of a buffer's bytes: 0 where it is past the buffer.
-pub fn within(told: usize, buffer: &[u8]) -> usize
-    ensures { λ r. ⌜ (r ≤ length (now (buffer .entry))) × (r ≡ length (take r (now (buffer .entry)))) ⌝ }
-{
-    if told <= buffer.len() { told } else { 0 }
-}
-
-// A packet framed.
-pub fn framed(source: &[u8], name: &[u8], packet: &[u8], expected: &[u8]) {
-    let mut buffer = [0u8; 64];
-    let Framed::Written(n) = framing::frame(packet, &mut buffer) else {
-        compared(source, name, expected, b"");
-        return;
-    };
-    let k = within(n, &buffer);
-    compared(source, name, expected, &buffer[..k]);
-}
-
-// How many bytes a whole packet has that a byte closes.
-fn whole(closing: Closing) -> usize {
-    match closing {
-        Closing::Open => 0,
-        Closing::Whole(n) => n,
-        Closing::Broken(_) => 0,
+// A row's line.
+pub fn show(line: &[u8], row: Row, outcome: Outcome, got: &[u8]) {
+    match outcome {
+        Outcome::Byte(byte) => {
+            let one = [byte];
+            report_row(line, row, &one);
+        }
+        Outcome::Word(word) => {
+            let four = high_first(word);
+            report_row(line, row, &four);
+        }
+        Outcome::Front(n) => {
+            report_row(line, row, part(got, 0, n));
+        }
+        Outcome::Unknown => {
+            bad_line(line);
+        }
     }
-}
-
-// Takes a run of line bytes; how many bytes the packet has that the last of them closes.
-fn unframe(line: &[u8], buffer: &mut [u8]) -> usize {
-    let mut state = framing::new();
-    let mut closing = Closing::Open;
-    let mut i: usize = 0;
-    while i < line.len() {
-        let stepped = framing::step(state, line[i], buffer);
-        state = stepped.line;
-        closing = stepped.closing;
-        i += 1;
-    }
-    whole(closing)
-}
-
-// The packet of a run of line bytes.
-pub fn unframed(source: &[u8], name: &[u8], line: &[u8], expected: &[u8]) {
-    let mut buffer = [0u8; 64];
-    let n = unframe(line, &mut buffer);
-    let k = within(n, &buffer);
-    compared(source, name, expected, &buffer[..k]);
 }

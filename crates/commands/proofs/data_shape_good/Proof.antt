@@ -1,3 +1,4 @@
+use mathlib.Core.Path.{refl}
 use Rattle.commands.specs.Header.{dataShaped}
 use borrow.Author.Needs.{needs}
 use Rattle.commands.proofs.data_shape_good.Statement.{statement}
@@ -20,7 +21,7 @@ past-requires-2 c κs = search needs
 
 returns : tie.Need-returns
 unfolding dataShaped
-returns c = cc
+returns c = rw (c .past2 .ensures, c .before .size-told .ensures, c .before .before .word-at .ensures, c .before .before .before .past .ensures) refl
 
 pub data-shape-good-spec : {M : Type 1} → statement M
 data-shape-good-spec =

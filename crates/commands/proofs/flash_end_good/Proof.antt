@@ -1,3 +1,4 @@
+use mathlib.Core.Path.{refl}
 use Rattle.commands.specs.Parameters.{flashEndRule}
 use borrow.Author.Needs.{needs}
 use Rattle.commands.proofs.flash_end_good.Statement.{statement}
@@ -8,7 +9,7 @@ word-at-requires c κs = search needs
 
 returns : tie.Need-returns
 unfolding flashEndRule
-returns c = cc
+returns c = rw (c .word-at .ensures) refl
 
 pub flash-end-good-spec : {M : Type 1} → statement M
 flash-end-good-spec = tie.close (tie.spec word-at-requires returns)

@@ -1,3 +1,4 @@
+use mathlib.Core.Path.{refl}
 use Rattle.commands.specs.Parameters.{inWords}
 use native.Mathlib.Numerals.{add-one}
 use borrow.Author.Needs.{needs}
@@ -12,7 +13,7 @@ up-to-end-requires c κs = search needs
 
 returns : tie.Need-returns
 unfolding inWords
-returns c = cc (add-one (c .before .args .address))
+returns c = rw (c .up-to-end .ensures, ← (add-one (c .before .args .address))) refl
 
 pub in-words-spec : {M : Type 1} → statement M
 in-words-spec = tie.close (tie.spec add-up-to-end up-to-end-requires returns)

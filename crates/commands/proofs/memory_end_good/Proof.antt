@@ -1,3 +1,4 @@
+use mathlib.Core.Path.{refl}
 use Rattle.commands.specs.Parameters.{memoryEndRule}
 use borrow.Author.Needs.{needs}
 use Rattle.commands.proofs.memory_end_good.Statement.{statement}
@@ -14,7 +15,7 @@ in-words-requires c κs = search needs
 
 returns : tie.Need-returns
 unfolding memoryEndRule
-returns c = cc
+returns c = rw (c .in-words .ensures, c .before .word-at2 .ensures, c .before .before .word-at .ensures) refl
 
 pub memory-end-good-spec : {M : Type 1} → statement M
 memory-end-good-spec =

@@ -1,5 +1,6 @@
+use mathlib.Core.Path.{refl}
 use native.Mathlib.Omega.{arith}
-use Rattle.commands.proofs.Products.{product-fits}
+use Rattle.begins.proofs.Products.{product-fits}
 use Rattle.commands.specs.Block.{paddingGood, padding, payload}
 use lib.Seq.{drop-drop}
 use borrow.Author.Needs.{needs}
@@ -26,7 +27,7 @@ all-from-requires c κs = search needs
 
 returns : tie.Need-returns
 unfolding paddingGood padding payload
-returns c = rw (drop-drop) (cc)
+returns c = rw (drop-drop, c .all-from .ensures, c .before .past .ensures) refl
 
 pub padding-good-spec : {M : Type 1} → statement M
 padding-good-spec =

@@ -1,3 +1,4 @@
+use mathlib.Core.Path.{refl}
 use Rattle.commands.specs.Parameters.{registerRule}
 use borrow.Author.Needs.{needs}
 use Rattle.commands.proofs.register_good.Statement.{statement}
@@ -8,7 +9,7 @@ in-words-requires c κs = search needs
 
 returns : tie.Need-returns
 unfolding registerRule
-returns c = cc
+returns c = rw (c .in-words .ensures) refl
 
 pub register-good-spec : {M : Type 1} → statement M
 register-good-spec = tie.close (tie.spec in-words-requires returns)

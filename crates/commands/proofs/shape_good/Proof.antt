@@ -1,3 +1,4 @@
+use mathlib.Core.Path.{refl}
 use Rattle.commands.specs.Header.{shaped}
 use borrow.Author.Needs.{needs}
 use Rattle.commands.proofs.shape_good.Statement.{statement}
@@ -11,7 +12,7 @@ past-requires c κs = search needs
 
 returns : tie.Need-returns
 unfolding shaped
-returns c = cc
+returns c = rw (c .past .ensures, c .before .size-told .ensures) refl
 
 pub shape-good-spec : {M : Type 1} → statement M
 shape-good-spec = tie.close (tie.spec size-told-requires past-requires returns)

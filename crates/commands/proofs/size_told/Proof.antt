@@ -1,3 +1,4 @@
+use mathlib.Core.Path.{refl}
 use Rattle.commands.specs.Header.{sized}
 use borrow.Author.Needs.{needs}
 use Rattle.commands.proofs.size_told.Statement.{statement}
@@ -14,7 +15,7 @@ past-requires c κs = search needs
 
 returns : tie.Need-returns
 unfolding sized
-returns c = cc
+returns c = rw (c .past .ensures, c .before .half-at .ensures) refl
 
 pub size-told-spec : {M : Type 1} → statement M
 size-told-spec = tie.close (tie.spec half-at-requires cast-result past-requires returns)

@@ -1,3 +1,4 @@
+use mathlib.Core.Path.{refl}
 use Rattle.commands.specs.Block.{sumGood, payload}
 use borrow.Author.Needs.{needs}
 use Rattle.commands.proofs.sum_good.Statement.{statement}
@@ -14,7 +15,7 @@ cast-result c = search needs
 
 returns : tie.Need-returns
 unfolding sumGood payload
-returns c = cc
+returns c = rw (c .word-at .ensures, c .before .checksum-from .ensures) refl
 
 pub sum-good-spec : {M : Type 1} → statement M
 sum-good-spec = tie.close (tie.spec checksum-from-requires word-at-requires cast-result returns)

@@ -1,3 +1,4 @@
+use mathlib.Core.Path.{refl}
 use Rattle.commands.specs.Parameters.{syncRule}
 use Rattle.commands.proofs.Sync.{too-short}
 use native.Mathlib.Omega.{arith}
@@ -25,7 +26,7 @@ all-from-requires c κs = search needs
 
 returns-2 : tie.Need-returns-2
 unfolding syncRule
-returns-2 c = cc
+returns-2 c = rw (c .all-from .ensures, c .before .same .ensures) refl
 
 pub sync-good-spec : {M : Type 1} → statement M
 sync-good-spec =

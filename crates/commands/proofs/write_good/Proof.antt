@@ -1,3 +1,4 @@
+use mathlib.Core.Path.{refl}
 use Rattle.commands.specs.Parameters.{writeRule}
 use borrow.Author.Needs.{needs}
 use Rattle.commands.proofs.write_good.Statement.{statement}
@@ -14,8 +15,8 @@ word-at-requires-2 c κs = search needs
 
 returns : tie.Need-returns
 unfolding writeRule
-returns c = cc
+returns c = rw (c .register-good .ensures, c .before .word-at2 .ensures, c .before .before .word-at .ensures) refl
 
 pub write-good-spec : {M : Type 1} → statement M
 write-good-spec =
-    tie.close (tie.spec word-at-requires register-good-requires word-at-requires-2 returns)
+    tie.close (tie.spec word-at-requires word-at-requires-2 register-good-requires returns)

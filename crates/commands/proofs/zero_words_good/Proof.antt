@@ -1,3 +1,4 @@
+use mathlib.Core.Path.{refl}
 use Rattle.commands.specs.Block.{zeroWords}
 use borrow.Author.Needs.{needs}
 use Rattle.commands.proofs.zero_words_good.Statement.{statement}
@@ -11,7 +12,7 @@ word-at-requires-2 c κs = search needs
 
 returns : tie.Need-returns
 unfolding zeroWords
-returns c = cc
+returns c = rw (c .word-at2 .ensures, c .before .word-at .ensures) refl
 
 pub zero-words-good-spec : {M : Type 1} → statement M
 zero-words-good-spec = tie.close (tie.spec word-at-requires word-at-requires-2 returns)

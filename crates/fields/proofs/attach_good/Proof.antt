@@ -1,3 +1,4 @@
+use mathlib.Core.Path.{refl}
 use borrow.Author.Needs.{needs}
 use Rattle.fields.specs.Pins.{attachGood}
 use Rattle.fields.proofs.attach_good.Statement.{statement}
@@ -8,7 +9,7 @@ fields-good-requires c κs = search needs
 
 returns : tie.Need-returns
 unfolding attachGood
-returns c = rw (c .fields-good .ensures)
+returns c = rw (c .fields-good .ensures) refl
 
 pub attach-good-spec : {M : Type 1} → statement M
 attach-good-spec = tie.close (tie.spec fields-good-requires returns)

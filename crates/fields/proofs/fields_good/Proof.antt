@@ -1,5 +1,6 @@
 -- A shift and a mask of six bits take one field.
 use Prim.Native.Nat.{_/_, _^_}
+use mathlib.Core.Path.{refl}
 use native.Mathlib.Nat.{div-one}
 use lib.Bits.{and-mask}
 use Rattle.fields.specs.Pins.{fieldsGood}
@@ -10,7 +11,7 @@ returns : tie.Need-returns
 unfolding fieldsGood
 returns c =
     let w = c .args .word in
-    cc (and-mask (w / 2 ^ 24) 6, and-mask (w / 2 ^ 18) 6, and-mask (w / 2 ^ 12) 6, and-mask (w / 2 ^ 6) 6, and-mask w 6, div-one w)
+    rw (and-mask (w / 2 ^ 24) 6, and-mask (w / 2 ^ 18) 6, and-mask (w / 2 ^ 12) 6, and-mask (w / 2 ^ 6) 6, and-mask w 6, div-one w) refl
 
 pub fields-good-spec : {M : Type 1} → statement M
 fields-good-spec = tie.close (tie.spec returns)

@@ -1,4 +1,5 @@
 -- Where the place is past the end the number is 0; elsewhere its two bytes are summed.
+use mathlib.Core.Path.{refl}
 use borrow.Author.Needs.{needs}
 use Rattle.fields.specs.Words.{half}
 use Rattle.fields.proofs.Words.{half-past}
@@ -25,7 +26,7 @@ add-result c = search needs
 
 returns-2 : tie.Need-returns-2
 unfolding half
-returns-2 c = search needs
+returns-2 c = rw (c .byte-at2 .ensures .0, c .before .byte-at .ensures .0) refl
 
 pub half-at-spec : {M : Type 1} → statement M
 half-at-spec =

@@ -1,3 +1,4 @@
+use mathlib.Core.Path.{refl}
 use borrow.Author.Needs.{needs}
 use Rattle.fields.specs.Pins.{pinsGood}
 use Rattle.fields.proofs.pins_good.Statement.{statement}
@@ -20,7 +21,7 @@ pin-good-requires-5 c κs = search needs
 
 returns : tie.Need-returns
 unfolding pinsGood
-returns c = cc
+returns c = rw (c .pin-good5 .ensures, c .before .pin-good4 .ensures, c .before .before .pin-good3 .ensures, c .before .before .before .pin-good2 .ensures, c .before .before .before .before .pin-good .ensures) refl
 
 pub pins-good-spec : {M : Type 1} → statement M
 pins-good-spec =

@@ -29,7 +29,8 @@ returns : tie.Need-returns
 unfolding pinsWord
 returns c =
     let s = fields-small (c .before .before .before .before .before .args .pins) (c .before .before .before .before .before .pre) in
-    cc (packed-is _ _ _ _ _ (wider (s .hd)) (wider (s .q)) (wider (s .d)) (wider (s .cs)) (wider (s .clk)))
+    rw (c .pin-field5 .ensures, c .before .pin-field4 .ensures, c .before .before .pin-field3 .ensures, c .before .before .before .pin-field2 .ensures, c .before .before .before .before .pin-field .ensures)
+    (packed-is _ _ _ _ _ (wider (s .hd)) (wider (s .q)) (wider (s .d)) (wider (s .cs)) (wider (s .clk)))
 
 pub pins-word-spec : {M : Type 1} → statement M
 pins-word-spec =

@@ -1,4 +1,5 @@
 -- Where the place is past the end the word is 0; elsewhere its four bytes are summed.
+use mathlib.Core.Path.{refl}
 use borrow.Author.Needs.{needs}
 use Rattle.fields.specs.Words.{word}
 use Rattle.fields.proofs.Words.{word-past}
@@ -49,7 +50,7 @@ add-result-3 c = search needs
 
 returns-2 : tie.Need-returns-2
 unfolding word
-returns-2 c = search needs
+returns-2 c = rw (c .byte-at4 .ensures .0, c .before .byte-at3 .ensures .0, c .before .before .byte-at2 .ensures .0, c .before .before .before .byte-at .ensures .0) refl
 
 pub word-at-spec : {M : Type 1} → statement M
 word-at-spec =

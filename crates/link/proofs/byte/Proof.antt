@@ -1,9 +1,11 @@
 -- The number 0 says that the record is sound and the buffer wide enough.
 use mathlib.Core.Path.{sym, ap, _∙_}
 use borrow.Author.Needs.{needs}
-use Rattle.link.specs.declared.Link.{Link}
-use Rattle.link.specs.Step.{byteStep, received}
-use Rattle.link.proofs.Ways.{call-taken, call-refused, checks-passed, checked-holder}
+use Rattle.link_state.specs.declared.Link.{Link}
+use Rattle.link_state.proofs.Sound.{checks-passed, checked-holder}
+use Rattle.link.specs.Hearing.{received}
+use Rattle.link.specs.Step.{byteStep}
+use Rattle.link.proofs.Calls.{call-taken, call-refused}
 use Rattle.link.proofs.byte.Statement.{statement}
 use Rattle.link.proofs.byte.Tie as tie
 
@@ -17,17 +19,29 @@ after-checks-requires : tie.Need-after-checks-requires
 after-checks-requires c κs = search needs
 
 receive-requires : tie.Need-receive-requires
-receive-requires c κs = rw (c .after-checks .ensures) (checked-holder (c .before .before .before .before .before .args .link) (c .before .before .before .before .before .args .tick) (checks-passed _ _ (sym (c .before .before .before .judge .ensures) ∙ c .before .before .if1 .taken) .0))
+receive-requires c κs =
+    let judged = c .before .before .before in
+    let args = judged .before .before .args in
+    rw (c .after-checks .ensures) (checked-holder (args .link) (args .tick) (checks-passed _ _ (sym (judged .judge .ensures) ∙ c .before .before .if1 .taken) .0))
 
 answer-requires : tie.Need-answer-requires
-answer-requires c κs = checks-passed _ _ (sym (c .before .before .before .before .before .judge .ensures) ∙ c .before .before .before .before .if1 .taken) .1
+answer-requires c κs =
+    let judged = c .before .before .before .before .before in
+    checks-passed _ _ (sym (judged .judge .ensures) ∙ c .before .before .before .before .if1 .taken) .1
 
 same-length : tie.Need-same-length
 same-length c = search needs
 
 returns : tie.Need-returns
 unfolding byteStep
-returns c = c .before .before .answer .ensures ∙ call-taken _ _ (c .before .before .before .before .before .before .before .before .judge .ensures) _ _ _ _ _ _ (c .before .before .before .before .before .before .before .if1 .taken) (c .before .before .before .before .before .before .is-lost .ensures) (c .before .before .before .before .receive .ensures ∙ (ap (λ (l : Link). received l (c .before .before .before .before .before .before .before .before .before .before .args .byte) (c .before .before .before .before .before .before .before .before .before .before .args .tick)) (c .before .before .before .before .before .after-checks .ensures)))
+returns c =
+    let turn = c .before .before .before .before in
+    let later = turn .before in
+    let gone = later .before in
+    let judged = gone .before .before in
+    let args = judged .before .before .args in
+    c .before .before .answer .ensures
+    ∙ call-taken _ _ (judged .judge .ensures) _ _ _ _ _ _ (gone .before .if1 .taken) (gone .is-lost .ensures) (turn .receive .ensures ∙ (ap (λ (l : Link). received l (args .byte) (args .tick)) (later .after-checks .ensures)))
 
 refuse-requires : tie.Need-refuse-requires
 refuse-requires c κs = search needs

@@ -2,12 +2,12 @@
 use mathlib.Core.Path.{_≡_, sym, ap, _∙_}
 use lib.ListN.{length}
 use borrow.Author.Needs.{needs}
-use Rattle.link.specs.Step.{quiet}
-use Rattle.link.proofs.Ways.{whole-start, whole-baud, whole-open}
+use Rattle.link_turns.specs.Turns.{quiet}
+use Rattle.link.proofs.Hearing.{whole-start, whole-baud, whole-open}
 use Rattle.link.proofs.frame_whole.Statement.{statement}
 use Rattle.link.proofs.frame_whole.Tie as tie
 
-frame-length : (c : tie.Start) → length (c .args .link .frame) ≡ 65
+frame-length : (c : tie.Start) → length (c .args .t1 .frame) ≡ 65
 frame-length c = search needs
 
 renew-requires : tie.Need-renew-requires
@@ -22,9 +22,6 @@ stay-requires c κs = search needs
 enum-told-2 : tie.Need-enum-told-2
 enum-told-2 c = search needs
 
-slice-aggregate-word-at : tie.Need-slice-aggregate-word-at
-slice-aggregate-word-at c = search needs
-
 word-at-requires : tie.Need-word-at-requires
 word-at-requires c κs = search needs
 
@@ -38,13 +35,26 @@ open-frame-requires : tie.Need-open-frame-requires
 open-frame-requires c κs = search needs
 
 returns : tie.Need-returns
-returns c = c .stay .ensures ∙ ap quiet (c .before .before .before .renew .ensures) ∙ sym (whole-start (c .before .before .before .before .before .args .link) (c .before .before .before .before .before .args .tick) (frame-length (c .before .before .before .before .before)) (c .before .before .before .before .before .pre) (c .before .enum-told .given .1))
+returns c =
+    let start = c .before .before .before .before in
+    c .stay .ensures ∙ ap quiet (c .before .before .before .renew .ensures)
+    ∙ sym (whole-start (start .args .t1) (start .args .tick) (frame-length start) (start .pre) (c .before .enum-told .given .1))
 
 returns-2 : tie.Need-returns-2
-returns-2 c = rw (c .before .before .before .before .before .renew .ensures, c .before .word-at .ensures) at (c .baud-frame .ensures) ∙ sym (whole-baud (c .before .before .before .before .before .before .before .args .link) (c .before .before .before .before .before .before .before .args .tick) (frame-length (c .before .before .before .before .before .before .before)) (c .before .before .before .before .before .before .before .pre) (c .before .before .before .enum-told2 .given .1))
+returns-2 c =
+    let phase = c .before .before .before .before .before in
+    let next = phase .before .before in
+    let start = next .before in
+    rw (next .renew .ensures, c .before .word-at .ensures) at (c .baud-frame .ensures)
+    ∙ sym (whole-baud (start .args .t1) (start .args .tick) (frame-length start) (start .pre) (phase .enum-told2 .given .1))
 
 returns-3 : tie.Need-returns-3
-returns-3 c = rw (c .before .before .before .renew .ensures) at (c .open-frame .ensures) ∙ sym (whole-open (c .before .before .before .before .before .args .link) (c .before .before .before .before .before .args .tick) (frame-length (c .before .before .before .before .before)) (c .before .before .before .before .before .pre) (c .before .enum-told3 .given .1))
+returns-3 c =
+    let phase = c .before .before .before in
+    let next = phase .before .before in
+    let start = next .before in
+    rw (next .renew .ensures) at (c .open-frame .ensures)
+    ∙ sym (whole-open (start .args .t1) (start .args .tick) (frame-length start) (start .pre) (phase .enum-told3 .given .1))
 
 pub frame-whole-spec : {M : Type 1} → statement M
 frame-whole-spec =
@@ -54,7 +64,6 @@ frame-whole-spec =
     enum-told
     stay-requires
     enum-told-2
-    slice-aggregate-word-at
     word-at-requires
     baud-frame-requires
     enum-told-3

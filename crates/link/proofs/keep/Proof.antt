@@ -1,7 +1,7 @@
 -- The first byte is the type; the others go into the holder.
 use borrow.Author.Tests.{eq-eqb, ne-eqb}
 use borrow.Author.Needs.{needs}
-use Rattle.link.specs.Link.{kept}
+use Rattle.link_state.specs.Link.{kept}
 use Rattle.link.proofs.keep.Statement.{statement}
 use Rattle.link.proofs.keep.Tie as tie
 

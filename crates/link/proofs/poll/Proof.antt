@@ -1,8 +1,10 @@
 -- The number 0 says that the record is sound and the buffer wide enough.
 use mathlib.Core.Path.{sym, ap, _∙_}
 use borrow.Author.Needs.{needs}
-use Rattle.link.specs.Step.{pollStep, quiet}
-use Rattle.link.proofs.Ways.{call-taken, call-refused, checks-passed}
+use Rattle.link_state.proofs.Sound.{checks-passed}
+use Rattle.link_turns.specs.Turns.{quiet}
+use Rattle.link.specs.Step.{pollStep}
+use Rattle.link.proofs.Calls.{call-taken, call-refused}
 use Rattle.link.proofs.poll.Statement.{statement}
 use Rattle.link.proofs.poll.Tie as tie
 
@@ -19,14 +21,22 @@ stay-requires : tie.Need-stay-requires
 stay-requires c κs = search needs
 
 answer-requires : tie.Need-answer-requires
-answer-requires c κs = checks-passed _ _ (sym (c .before .before .before .before .before .judge .ensures) ∙ c .before .before .before .before .if1 .taken) .1
+answer-requires c κs =
+    let judged = c .before .before .before .before .before in
+    checks-passed _ _ (sym (judged .judge .ensures) ∙ c .before .before .before .before .if1 .taken) .1
 
 same-length : tie.Need-same-length
 same-length c = search needs
 
 returns : tie.Need-returns
 unfolding pollStep
-returns c = c .before .before .answer .ensures ∙ call-taken _ _ (c .before .before .before .before .before .before .before .before .judge .ensures) _ _ _ _ _ _ (c .before .before .before .before .before .before .before .if1 .taken) (c .before .before .before .before .before .before .is-lost .ensures) (c .before .before .before .before .stay .ensures ∙ (ap quiet (c .before .before .before .before .before .after-checks .ensures)))
+returns c =
+    let turn = c .before .before .before .before in
+    let later = turn .before in
+    let gone = later .before in
+    let judged = gone .before .before in
+    c .before .before .answer .ensures
+    ∙ call-taken _ _ (judged .judge .ensures) _ _ _ _ _ _ (gone .before .if1 .taken) (gone .is-lost .ensures) (turn .stay .ensures ∙ (ap quiet (later .after-checks .ensures)))
 
 refuse-requires : tie.Need-refuse-requires
 refuse-requires c κs = search needs

@@ -1,7 +1,7 @@
 use mathlib.Core.Path.{sym, _∙_}
 use borrow.Author.Needs.{needs}
-use Rattle.link.specs.Step.{received}
-use Rattle.link.proofs.Ways.{cond-true, cond-false}
+use Rattle.link_state.proofs.Cases.{cond-true, cond-false}
+use Rattle.link.specs.Hearing.{received}
 use Rattle.link.proofs.receive.Statement.{statement}
 use Rattle.link.proofs.receive.Tie as tie
 

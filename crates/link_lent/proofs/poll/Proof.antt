@@ -41,15 +41,15 @@ use denote.Triple.Walked.{says, Stays, stay-ref, stay-none, gave-slice, walkOf, 
 use denote.Exit.{yes}
 use Rattle.link.specs.Answers.{came}
 use Rattle.link.specs.Step.{pollStep}
-use Rattle.link.specs.declared.Link.{Link}
+use Rattle.link_state.specs.declared.Link.{Link}
 use Rattle.link.specs.declared.Next.{Next}
 use Rattle.link.proofs.poll.Symbol.{name as #link·poll}
 use Rattle.link_lent.proofs.Values.{machL, machD, isL, isD}
 use Rattle.link_lent.proofs.poll.Key.{name as #link-lent·poll}
 use denote.Triple.Statement.{Contract, Triple}
 use denote.Struct.Laws as LL
-use Rattle.link.proofs.Link as T
-use Rattle.link.proofs.Link.Laws as T′
+use Rattle.link_state.proofs.Link as T
+use Rattle.link_state.proofs.Link.Laws as T′
 use Rattle.link.proofs.Next as N
 use Rattle.link.proofs.Next.Laws as N′
 use Rattle.link.proofs.Told as D

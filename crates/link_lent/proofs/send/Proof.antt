@@ -41,15 +41,15 @@ use denote.Triple.Walked.{says, Stays, stay-ref, stay-none, stay-dropped, gave-s
 use denote.Exit.{yes}
 use Rattle.link.specs.Answers.{came}
 use Rattle.link.specs.Step.{sendStep}
-use Rattle.link.specs.declared.Link.{Link}
+use Rattle.link_state.specs.declared.Link.{Link}
 use Rattle.link.specs.declared.Next.{Next}
 use Rattle.link.proofs.send.Symbol.{name as #link·send}
 use Rattle.link_lent.proofs.Values.{machL, machD, isL, isD}
 use Rattle.link_lent.proofs.send.Key.{name as #link-lent·send}
 use denote.Triple.Statement.{Contract, Triple}
 use denote.Struct.Laws as LL
-use Rattle.link.proofs.Link as T
-use Rattle.link.proofs.Link.Laws as T′
+use Rattle.link_state.proofs.Link as T
+use Rattle.link_state.proofs.Link.Laws as T′
 use Rattle.link.proofs.Next as N
 use Rattle.link.proofs.Next.Laws as N′
 use Rattle.link.proofs.Told as D

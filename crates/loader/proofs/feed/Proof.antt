@@ -21,43 +21,43 @@ enum-known-closing : tie.Need-enum-known-closing
 enum-known-closing c = search needs
 
 slice-reshare-prefix-act : tie.Need-slice-reshare-prefix-act
-slice-reshare-prefix-act c = whole-fits _ _ (c .before .before .before .before .before .before .before .before .before .before .before .before .before .before .before .args .packet .now) (c .before .before .before .before .before .before .before .before .before .before .before .before .before .before .before .args .answer .now) (c .before .before .before .before .before .before .before .before .before .before .before .before .before .before .before .args .flash .now) (c .before .before .before .before .before .before .before .before .before .before .before .before .before .before .before .args .words .now) _ (c .before .before .before .before .before .before .before .before .before .before .refusal-of .ensures) (c .before .before .before .before .before .before .before .before .before .if1 .left) _ _ (c .before .before .before .before .before .before .step .ensures) _ (c .before .closing .given .1) (c .before .before .before .before .before .before .step .kept .1 .1 .0)
+slice-reshare-prefix-act c = let s = c .before .before .before .before .before .before in let i = s .before .before .before in let j = i .before in let a = j .before .before .before .before .before .args in whole-fits _ _ (a .packet .now) (a .answer .now) (a .flash .now) (a .words .now) _ (j .refusal-of .ensures) (i .if1 .left) _ _ (s .step .ensures) _ (c .before .closing .given .1) (s .step .kept .1 .1 .0)
 
 slice-aggregate-act : tie.Need-slice-aggregate-act
-slice-aggregate-act c = sym (length-take-le _ _ (whole-fits _ _ (c .before .before .before .before .before .before .before .before .before .before .before .before .before .before .before .before .args .packet .now) (c .before .before .before .before .before .before .before .before .before .before .before .before .before .before .before .before .args .answer .now) (c .before .before .before .before .before .before .before .before .before .before .before .before .before .before .before .before .args .flash .now) (c .before .before .before .before .before .before .before .before .before .before .before .before .before .before .before .before .args .words .now) _ (c .before .before .before .before .before .before .before .before .before .before .before .refusal-of .ensures) (c .before .before .before .before .before .before .before .before .before .before .if1 .left) _ _ (c .before .before .before .before .before .before .before .step .ensures) _ (c .before .before .closing .given .1) (c .before .before .before .before .before .before .before .step .kept .1 .1 .0)))
+slice-aggregate-act c = let s = c .before .before .before .before .before .before .before in let i = s .before .before .before in let j = i .before in let a = j .before .before .before .before .before .args in sym (length-take-le _ _ (whole-fits _ _ (a .packet .now) (a .answer .now) (a .flash .now) (a .words .now) _ (j .refusal-of .ensures) (i .if1 .left) _ _ (s .step .ensures) _ (c .before .before .closing .given .1) (s .step .kept .1 .1 .0)))
 
 act-requires : tie.Need-act-requires
-act-requires c κs = let a = allowed _ _ (sym (c .before .before .before .before .before .before .before .before .before .before .before .before .before .before .refusal-of .ensures) ∙ c .before .before .before .before .before .before .before .before .before .before .before .before .before .if1 .left) in (a .for-answer, record { good = a .session; most-words = a .for-words })
+act-requires c κs = let i = c .before .before .before .before .before .before .before .before .before .before .before .before .before in let a = allowed _ _ (sym (i .before .refusal-of .ensures) ∙ i .if1 .left) in (a .for-answer, a .session)
 
 enum-known-closing-2 : tie.Need-enum-known-closing-2
 enum-known-closing-2 c = search needs
 
 same-length : tie.Need-same-length
-same-length c = c .before .before .before .before .before .step .kept .1 .1 .0
+same-length c = search needs
 
 returns-2 : tie.Need-returns-2
-returns-2 c = byte-taken _ _ _ _ _ _ _ (c .before .before .before .before .before .before .before .before .before .refusal-of .ensures) (c .before .before .before .before .before .before .before .before .if1 .left) _ _ (c .before .before .before .before .before .step .ensures) (c .enum-told .given .1)
+returns-2 c = let i = c .before .before .before .before .before .before .before .before in byte-taken _ _ _ _ _ _ _ (i .before .refusal-of .ensures) (i .if1 .left) _ _ (c .before .before .before .before .before .step .ensures) (c .enum-told .given .1)
 
 same-length-2 : tie.Need-same-length-2
-same-length-2 c = c .before .before .before .before .before .before .before .before .before .before .before .before .before .before .before .before .before .step .kept .1 .1 .0
+same-length-2 c = search needs
 
 same-length-3 : tie.Need-same-length-3
-same-length-3 c = c .before .before .before .before .before .before .act .kept .1 .1 .0
+same-length-3 c = search needs
 
 same-length-4 : tie.Need-same-length-4
-same-length-4 c = c .before .before .before .before .before .before .act .kept .1 .1 .1 .0
+same-length-4 c = search needs
 
 same-length-5 : tie.Need-same-length-5
-same-length-5 c = c .before .before .before .before .before .before .act .kept .1 .1 .1 .1 .0
+same-length-5 c = search needs
 
 returns-3 : tie.Need-returns-3
-returns-3 c = packet-acted _ _ _ _ _ _ _ (c .before .before .before .before .before .before .before .before .before .before .before .before .before .before .before .before .before .before .before .before .before .refusal-of .ensures) (c .before .before .before .before .before .before .before .before .before .before .before .before .before .before .before .before .before .before .before .before .if1 .left) _ _ (c .before .before .before .before .before .before .before .before .before .before .before .before .before .before .before .before .before .step .ensures) _ _ _ _ _ (c .before .before .before .before .before .before .before .before .before .before .before .before .closing .given .1) (whole-fits _ _ (c .before .before .before .before .before .before .before .before .before .before .before .before .before .before .before .before .before .before .before .before .before .before .before .before .before .before .args .packet .now) (c .before .before .before .before .before .before .before .before .before .before .before .before .before .before .before .before .before .before .before .before .before .before .before .before .before .before .args .answer .now) (c .before .before .before .before .before .before .before .before .before .before .before .before .before .before .before .before .before .before .before .before .before .before .before .before .before .before .args .flash .now) (c .before .before .before .before .before .before .before .before .before .before .before .before .before .before .before .before .before .before .before .before .before .before .before .before .before .before .args .words .now) _ (c .before .before .before .before .before .before .before .before .before .before .before .before .before .before .before .before .before .before .before .before .before .refusal-of .ensures) (c .before .before .before .before .before .before .before .before .before .before .before .before .before .before .before .before .before .before .before .before .if1 .left) _ _ (c .before .before .before .before .before .before .before .before .before .before .before .before .before .before .before .before .before .step .ensures) _ (c .before .before .before .before .before .before .before .before .before .before .before .before .closing .given .1) (c .before .before .before .before .before .before .before .before .before .before .before .before .before .before .before .before .before .step .kept .1 .1 .0)) (c .before .before .before .before .before .before .act .ensures)
+returns-3 c = let s = c .before .before .before .before .before .before .before .before .before .before .before .before .before .before .before .before .before in let i = s .before .before .before in let j = i .before in let a = j .before .before .before .before .before .args in packet-acted _ _ (a .packet .now) (a .answer .now) (a .flash .now) (a .words .now) _ (j .refusal-of .ensures) (i .if1 .left) _ _ (s .step .ensures) _ _ _ _ _ (c .before .before .before .before .before .before .before .before .before .before .before .before .closing .given .1) (s .step .kept .1 .1 .0) (c .before .before .before .before .before .before .act .ensures)
 
 same-length-6 : tie.Need-same-length-6
-same-length-6 c = c .before .before .before .before .before .before .step .kept .1 .1 .0
+same-length-6 c = search needs
 
 returns-4 : tie.Need-returns-4
-returns-4 c = packet-broken _ _ _ _ _ _ _ (c .before .before .before .before .before .before .before .before .before .before .refusal-of .ensures) (c .before .before .before .before .before .before .before .before .before .if1 .left) _ _ (c .before .before .before .before .before .before .step .ensures) _ (c .before .closing2 .given .1)
+returns-4 c = let i = c .before .before .before .before .before .before .before .before .before in packet-broken _ _ _ _ _ _ _ (i .before .refusal-of .ensures) (i .if1 .left) _ _ (c .before .before .before .before .before .before .step .ensures) _ (c .before .closing2 .given .1)
 
 pub feed-spec : {M : Type 1} → statement M
 feed-spec =

@@ -11,7 +11,7 @@ attach-good-requires c κs = search needs
 
 returns : tie.Need-returns
 unfolding recordGood
-returns c = cc
+returns c = rw (c .attach-good .ensures, c .before .session-good .ensures)
 
 pub record-good-spec : {M : Type 1} → statement M
 record-good-spec = tie.close (tie.spec session-good-requires attach-good-requires returns)

@@ -30,7 +30,7 @@ check-requires-5 c κs = search needs
 
 returns : tie.Need-returns
 unfolding refusal bufferChecks first
-returns c = cc
+returns c = rw (c .check5 .ensures, c .before .check4 .ensures, c .before .before .check3 .ensures, c .before .before .before .check2 .ensures, c .before .before .before .before .check .ensures, c .before .before .before .before .before .record-good .ensures, c .before .before .before .before .before .before .word-count-good .ensures, c .before .before .before .before .before .before .before .flash-length-good .ensures)
 
 pub refusal-of-spec : {M : Type 1} → statement M
 refusal-of-spec =

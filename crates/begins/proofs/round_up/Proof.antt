@@ -1,0 +1,18 @@
+use Rattle.begins.specs.Begin.{roundUp}
+use mathlib.Core.Path.{refl}
+use borrow.Author.Needs.{needs}
+use Rattle.begins.proofs.round_up.Statement.{statement}
+use Rattle.begins.proofs.round_up.Tie as tie
+
+add-result : tie.Need-add-result
+add-result c = search needs
+
+mul-result : tie.Need-mul-result
+mul-result c = search needs
+
+returns : tie.Need-returns
+unfolding roundUp
+returns c = refl
+
+pub round-up-spec : {M : Type 1} → statement M
+round-up-spec = tie.close (tie.spec add-result mul-result returns)

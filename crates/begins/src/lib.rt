@@ -1,0 +1,119 @@
+// What a BEGIN announces, and the rules for its numbers.
+ghost use mathlib.Core.Path.{_≡_};
+ghost use Prim.Native.Nat.{_+_, min};
+ghost use lib.Dec.{leb};
+ghost use Rattle.begins.specs.Begin.{beginOf, roundUp, counted, flashRule, memoryEnd, memoryRule, reached};
+use fields::FIRST_WORD;
+use fields::FOURTH_WORD;
+use fields::SECOND_WORD;
+use fields::THIRD_WORD;
+
+// What a BEGIN announces: size S, block count n, block size b, and the offset or address.
+pub struct Begin {
+    pub size: u32,
+    pub count: u32,
+    pub block: u32,
+    pub offset: u32,
+}
+
+// The lengths lent: flash in bytes, memory in words.
+pub struct Lengths {
+    pub flash: usize,
+    pub words: usize,
+}
+
+// The numbers of a BEGIN, read from its packet.
+pub fn begin_of(packet: &[u8]) -> Begin
+    ensures { λ r. ⌜ r ≡ beginOf (now (packet .entry)) ⌝ }
+{
+    Begin {
+        size: fields::word_at(packet, FIRST_WORD),
+        count: fields::word_at(packet, SECOND_WORD),
+        block: fields::word_at(packet, THIRD_WORD),
+        offset: fields::word_at(packet, FOURTH_WORD),
+    }
+}
+
+// Rounded up to a sector.
+pub fn round_up(x: u32) -> u64
+    ensures { λ r. ⌜ r ≡ roundUp x ⌝ }
+{
+    (x as u64 + 4095) / 4096 * 4096
+}
+
+// Whether the block count is the size over the block size, rounded up.
+fn count_good(begin: Begin) -> bool
+    ensures { λ r. ⌜ r ≡ counted begin ⌝ }
+{
+    let all = begin.count as u64 * begin.block as u64;
+    let size = begin.size as u64;
+    (size <= all) & (all < size + begin.block as u64)
+}
+
+// Whether a flash BEGIN's numbers are good.
+pub fn flash_good(lengths: Lengths, begin: Begin) -> bool
+    ensures { λ r. ⌜ r ≡ flashRule lengths begin ⌝ }
+{
+    let block = begin.block;
+    let offset = begin.offset;
+    let last = offset as u64 + round_up(begin.size);
+    let placed = (offset % 4096 == 0) & (last <= lengths.flash as u64);
+    (1 <= block) & ((block <= 4096) & (count_good(begin) & placed))
+}
+
+// The address of the first word.
+pub const MEMORY_START: u32 = 0x40100000;
+
+// Whether an address is at most the one past the last word. Divided and not multiplied, so that no count of words wraps.
+pub fn up_to_end(lengths: Lengths, address: u64) -> bool
+    ensures { λ r. ⌜ r ≡ leb address (memoryEnd lengths) ⌝ }
+{
+    let start = MEMORY_START as u64;
+    if address <= start {
+        return true;
+    }
+    let words = lengths.words as u64;
+    if (address - start + 3) / 4 <= words {
+        return true;
+    }
+    false
+}
+
+// Whether a memory BEGIN's numbers are good.
+pub fn memory_good(lengths: Lengths, begin: Begin) -> bool
+    ensures { λ r. ⌜ r ≡ memoryRule lengths begin ⌝ }
+{
+    let size = begin.size;
+    let block = begin.block;
+    let address = begin.offset;
+    let last = address as u64 + size as u64;
+    let placed = (MEMORY_START <= address) & up_to_end(lengths, last);
+    let aligned = (size % 4 == 0) & ((block % 4 == 0) & ((address % 4 == 0) & placed));
+    (4 <= block) & ((block <= 4096) & (count_good(begin) & aligned))
+}
+
+// The smaller of two numbers, the second of 32 bits.
+fn at_most(n: u64, most: u32) -> u32
+    ensures { λ r. ⌜ r ≡ min n most ⌝ }
+{
+    if n < most as u64 {
+        return n as u32;
+    }
+    most
+}
+
+// How many bytes k blocks reach, of the announced size.
+pub fn reach(begin: Begin, k: u32) -> u32
+    ensures { λ r. ⌜ r ≡ reached begin k ⌝ }
+{
+    let all = k as u64 * begin.block as u64;
+    at_most(all, begin.size)
+}
+
+// How many bytes are reached once block k is accepted too. The sum k + 1 is taken in 64 bits.
+pub fn reach_after(begin: Begin, k: u32) -> u32
+    ensures { λ r. ⌜ r ≡ reached begin (k + 1) ⌝ }
+{
+    let more = (k as u64 + 1) * begin.block as u64;
+    at_most(more, begin.size)
+}

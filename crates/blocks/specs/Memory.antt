@@ -1,0 +1,31 @@
+-- MEM_DATA: what block k of a load writes into the words.
+use mathlib.Core.List.{List, [], _∷_, _++_}
+use mathlib.Core.Bool.{Bool, cond}
+use Prim.Native.Nat.{ℕ, zero, suc, _+_, _-_, _*_, _/_}
+use lib.Dec.{leb}
+use lib.ListN.{length}
+use Rattle.lists.specs.Lay.{lay}
+use Rattle.fields.specs.Words.{word}
+use Rattle.begins.specs.Begin.{reached}
+use Rattle.begins.specs.declared.Begin.{Begin}
+use Rattle.commands.specs.Block.{payload}
+use Rattle.commands.specs.Parameters.{place}
+
+-- "Four bytes make a word, least first": the first n words of a run of bytes
+unfoldable pub wordsOf : List ℕ → ℕ → List ℕ
+wordsOf s zero = []
+wordsOf s (suc n) = wordsOf s n ++ (word s (4 * n) ∷ [])
+
+-- "No erasing: words past w are as before."
+unfoldable pub wordsBlock : Begin → ℕ → List ℕ → List ℕ → List ℕ
+wordsBlock g k block words =
+    lay words (place (g .offset + reached g k)) (wordsOf block ((reached g (k + 1) - reached g k) / 4))
+
+-- the words have the block's places
+unfoldable pub wordsFit : Begin → ℕ → List ℕ → Bool
+wordsFit g k words =
+    leb (place (g .offset + reached g k) + (reached g (k + 1) - reached g k) / 4) (length words)
+
+-- the data of a packet written; nothing is written where they do not fit, which no session that refusal 5 lets pass has
+unfoldable pub wordsWritten : Begin → ℕ → List ℕ → List ℕ → List ℕ
+wordsWritten g k p words = cond (wordsFit g k words) (wordsBlock g k (payload p) words) words

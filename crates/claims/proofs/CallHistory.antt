@@ -1,0 +1,43 @@
+-- The calls that close a packet are the packets of the line, handled one after the other.
+use mathlib.Core.Path.{_≡_, refl, ap}
+use mathlib.Core.List.{List, [], _∷_, map}
+use mathlib.Core.Option.{none}
+use Prim.Native.Nat.{ℕ, zero, suc, _<_}
+use native.Mathlib.Omega.{arith}
+use lib.ListN.{length, getD}
+use Rattle.fields.specs.Pins.{attachGood}
+use Rattle.framing.specs.Packets.{classify, stretches, stored, packets}
+use Rattle.framing.specs.Theorems.{closedAs}
+use Rattle.framing.proofs.Cut.{todo}
+use Rattle.framing.proofs.Invariant.{pend-fresh}
+use Rattle.sessions.specs.Session.{sessionGood}
+use Rattle.effects.specs.Core.{Core}
+use Rattle.effects.specs.Handle.{handle}
+use Rattle.history.specs.History.{history, handledAt}
+use Rattle.claims.specs.Calls.{Call, start, lineBytes, closingAt}
+use Rattle.claims.specs.CallHistory.{coreAt, storedAt, closingAs, CallsAreHistory}
+use Rattle.claims.proofs.Line.{closings, Follows, follows}
+
+closings-length : (c : Core) (ss : List (List ℕ)) → length (closings c (map closedAs ss)) ≡ length (map classify ss)
+unfolding closings
+closings-length c [] = refl
+closings-length c (s ∷ ss) = ap suc (closings-length _ ss)
+
+closings-at : (c : Core) (ss : List (List ℕ)) (i : ℕ) → i < length (map classify ss)
+    → closingAt (closings c (map closedAs ss)) i ≡ closingAs (stored (getD ss i [])) (handledAt (history c (map classify ss)) i)
+unfolding closings closingAt closedAs classify history handledAt
+closings-at c [] i h = absurd (omega arith)
+closings-at c (s ∷ ss) zero h = refl
+closings-at c (s ∷ ss) (suc i) h = closings-at (handle c (classify s) .core) ss i (omega arith)
+
+pub from-start : (buffer flash words : List ℕ) (cs : List Call) → Follows (start buffer flash words) none cs
+unfolding start sessionGood attachGood
+from-start buffer flash words cs =
+    follows cs (start buffer flash words) none (record { pending = pend-fresh buffer; sound = record { session = refl; attach = refl } })
+
+pub calls-are-history : CallsAreHistory
+unfolding todo packets storedAt
+calls-are-history buffer flash words cs =
+    let c = coreAt (start buffer flash words) in
+    let ss = stretches (lineBytes (start buffer flash words) cs) in
+    rw (from-start buffer flash words cs .closes) (record { one-for-one = closings-length c ss; each = λ i h. closings-at c ss i h })

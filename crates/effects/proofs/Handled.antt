@@ -1,0 +1,53 @@
+-- A read packet is carried out where every check of its command passes, and fails otherwise.
+use mathlib.Core.Path.{_≡_, refl}
+use mathlib.Core.List.{List}
+use mathlib.Core.Bool.{Bool, true, false, cond}
+use Prim.Native.Nat.{ℕ}
+use borrow.Author.Tests.{eqb-true, eqb-false, eq-eqb, ne-eqb}
+use lib.Dec.{eqb}
+use Rattle.lists.proofs.Tests.{Passed, passed-first, first-passed}
+use Rattle.framing.specs.Packets.{read}
+use Rattle.commands.specs.Header.{command}
+use Rattle.sessions.specs.Session as sessions
+use Rattle.sessions.specs.Errors.{kind, checks, errorOf}
+use Rattle.sessions.specs.declared.Session.{Session}
+use Rattle.sessions.proofs.Checks.{all-numbered}
+use Rattle.effects.specs.Core.{Core, lengths, withSession, ifSound}
+use Rattle.effects.specs.Handle.{Handled, carriedOut, failed, handle, Does}
+use Rattle.effects.specs.declared.Note.the-variants.{Nothing}
+use Rattle.effects.specs.declared.Done.{Done}
+
+module _ (c : Core) (p : List ℕ) where
+  -- the checks of the packet's command all pass
+  abbrev pub Passes : Type 0
+  Passes = Passed (checks (lengths c) (c .session) (kind (command p)) p)
+
+  pub good-handled : Passes → handle c (read p) ≡ carriedOut c p
+  unfolding handle errorOf
+  good-handled t = rw (passed-first _ t)
+
+  -- what holds of a failed command and of a good one carried out holds of the handled packet
+  pub handle-cases : (P : Handled → Type 0) → ((e : ℕ) → (e ≡ 0 → ⊥) → P (failed c p e)) → (Passes → P (carriedOut c p))
+      → P (handle c (read p))
+  unfolding handle errorOf
+  handle-cases P bad good = go (eqb (errorOf (lengths c) (c .session) p) 0) refl
+    where
+      go : (x : Bool) → eqb (errorOf (lengths c) (c .session) p) 0 ≡ x
+          → P (cond x (carriedOut c p) (failed c p (errorOf (lengths c) (c .session) p)))
+      go true e = good (first-passed _ (all-numbered (lengths c) (c .session) (kind (command p)) p) (eqb-true _ 0 e))
+      go false e = bad _ (eqb-false _ 0 e)
+
+-- a read packet's command, in what the code has: the session as it finds it, and its error
+module _
+    (c : Core) (p : List ℕ) (s : Session) (error : ℕ) (found : s ≡ sessions.ifSound (lengths c) (c .session))
+    (judged : error ≡ errorOf (lengths c) s p) where
+  pub obeyed-failed : (error ≡ 0 → ⊥) → (r : Done) → r ≡ record { error = error; session = s; attach = c .attach; value = 0; note = Nothing }
+      → Does (handle (ifSound c) (read p)) (command p) r (c .flash) (c .words)
+  unfolding handle failed
+  obeyed-failed bad r e =
+      rw (← found, ← judged, ne-eqb error 0 bad, e) (record { reply = refl; session = refl; attach = refl; in-flash = refl; in-words = refl })
+
+  pub obeyed-done : error ≡ 0 → (r : Done) (f w : List ℕ) → Does (carriedOut (withSession c s) p) (command p) r f w
+      → Does (handle (ifSound c) (read p)) (command p) r f w
+  unfolding handle
+  obeyed-done good r f w d = rw (← found, ← judged, eq-eqb error 0 good) d

@@ -1,0 +1,4 @@
+pub mod Passing
+pub mod Fitting
+pub mod Carried
+pub mod Handled

@@ -1,0 +1,191 @@
+use mathlib.Core.Path.{refl, _∙_}
+use native.Mathlib.Omega.{arith}
+use Rattle.sessions.specs.Errors.{kind}
+use Rattle.sessions.proofs.Numbers.{kind-none}
+use Rattle.effects.specs.Effects.{effect}
+use Rattle.effects.proofs.Passing.{written-place, read-place, flash-data, memory-data}
+use Rattle.effects.proofs.Fitting.{flash-written, words-written}
+use Rattle.effects.proofs.Carried.{does-at, does-none, leaves}
+use borrow.Author.Needs.{needs}
+use Rattle.effects.proofs.carry_out.Statement.{statement}
+use Rattle.effects.proofs.carry_out.Tie as tie
+
+command-of-requires : tie.Need-command-of-requires
+command-of-requires c κs = search needs
+
+begin-of-requires : tie.Need-begin-of-requires
+begin-of-requires c κs = search needs
+
+leaving-requires : tie.Need-leaving-requires
+leaving-requires c κs = search needs
+
+announced-by-requires : tie.Need-announced-by-requires
+announced-by-requires c κs = search needs
+
+accepted-by-requires : tie.Need-accepted-by-requires
+accepted-by-requires c κs = search needs
+
+write-flash-requires : tie.Need-write-flash-requires
+write-flash-requires c κs = search needs
+
+advanced-by-requires : tie.Need-advanced-by-requires
+advanced-by-requires c κs = let a = c .before .before .before .before .before .before .before .before .before .before .before .args in let d = flash-data _ (a .session) (a .packet .now) _ (c .before .before .before .before .before .before .before .command-of .ensures) (c .before .before .before .before .before .before .before .before .before .before .before .pre .0) (c .before .before .before .before .before .before .match .keys2) in omega (arith, rw (← (c .before .before .before .before .before .announced-by .ensures)) at (d .more), c .before .before .before .before .before .announced-by .ok .1 .1 .0)
+
+leaving-requires-2 : tie.Need-leaving-requires-2
+leaving-requires-2 c κs = search needs
+
+flash-note-requires : tie.Need-flash-note-requires
+flash-note-requires c κs = search needs
+
+closing-requires : tie.Need-closing-requires
+closing-requires c κs = search needs
+
+begin-of-requires-2 : tie.Need-begin-of-requires-2
+begin-of-requires-2 c κs = search needs
+
+leaving-requires-3 : tie.Need-leaving-requires-3
+leaving-requires-3 c κs = search needs
+
+memory-note-requires : tie.Need-memory-note-requires
+memory-note-requires c κs = search needs
+
+closing-requires-2 : tie.Need-closing-requires-2
+closing-requires-2 c κs = search needs
+
+announced-by-requires-2 : tie.Need-announced-by-requires-2
+announced-by-requires-2 c κs = search needs
+
+accepted-by-requires-2 : tie.Need-accepted-by-requires-2
+accepted-by-requires-2 c κs = search needs
+
+write-words-requires : tie.Need-write-words-requires
+write-words-requires c κs = search needs
+
+advanced-by-requires-2 : tie.Need-advanced-by-requires-2
+advanced-by-requires-2 c κs = let a = c .before .before .before .before .before .before .before .before .before .before .before .args in let d = memory-data _ (a .session) (a .packet .now) _ (c .before .before .before .before .before .before .before .command-of .ensures) (c .before .before .before .before .before .before .before .before .before .before .before .pre .0) (c .before .before .before .before .before .before .match .keys6) in omega (arith, rw (← (c .before .before .before .before .before .announced-by2 .ensures)) at (d .more), c .before .before .before .before .before .announced-by2 .ok .1 .1 .0)
+
+leaving-requires-4 : tie.Need-leaving-requires-4
+leaving-requires-4 c κs = search needs
+
+leaving-requires-5 : tie.Need-leaving-requires-5
+leaving-requires-5 c κs = search needs
+
+write-register-requires : tie.Need-write-register-requires
+write-register-requires c κs = let a = c .before .before .before .before .before .before .args in written-place _ (a .session) (a .packet .now) _ (c .before .before .command-of .ensures) (c .before .before .before .before .before .before .pre .0) (c .before .match .keys8)
+
+leaving-requires-6 : tie.Need-leaving-requires-6
+leaving-requires-6 c κs = search needs
+
+read-register-requires : tie.Need-read-register-requires
+read-register-requires c κs = let a = c .before .before .before .before .before .before .args in read-place _ (a .session) (a .packet .now) _ (c .before .before .command-of .ensures) (c .before .before .before .before .before .before .pre .0) (c .before .match .keys9)
+
+word-at-requires : tie.Need-word-at-requires
+word-at-requires c κs = search needs
+
+leaving-requires-7 : tie.Need-leaving-requires-7
+leaving-requires-7 c κs = search needs
+
+leaving-requires-8 : tie.Need-leaving-requires-8
+leaving-requires-8 c κs = search needs
+
+returns : tie.Need-returns
+unfolding kind effect
+returns c = does-at _ (c .before .before .before .before .before .before .before .args .packet .now) _ _ _ _ (c .before .before .before .command-of .ensures) 0x02 (c .before .before .match .keys1) (leaves _ _ _ _ _ _ _ _ _ _ (c .leaving .ensures) refl (rw (c .before .begin-of .ensures)) refl refl refl)
+
+same-length : tie.Need-same-length
+same-length c = search needs
+
+returns-2 : tie.Need-returns-2
+unfolding kind effect
+returns-2 c = let a = c .before .before .before .before .before .before .before .before .before .before .before .before .before .args in let d = flash-data _ (a .session) (a .packet .now) _ (c .before .before .before .before .before .before .before .before .before .command-of .ensures) (c .before .before .before .before .before .before .before .before .before .before .before .before .before .pre .0) (c .before .before .before .before .before .before .before .before .match .keys2) in let w = rw (c .before .before .before .before .before .before .before .announced-by .ensures, c .before .before .before .before .before .before .accepted-by .ensures) at (c .before .before .before .before .write-flash .ensures) in does-at _ (a .packet .now) _ _ _ _ (c .before .before .before .before .before .before .before .before .before .command-of .ensures) 0x03 (c .before .before .before .before .before .before .before .before .match .keys2) (leaves _ _ _ _ _ _ _ _ _ _ (c .leaving2 .ensures) refl (c .before .advanced-by .ensures) refl (w ∙ flash-written (a .flash .now) (a .words .now) (a .packet .now) (a .session) (c .before .before .before .before .before .before .before .before .before .before .before .before .before .pre .1) d) refl)
+
+returns-3 : tie.Need-returns-3
+unfolding kind effect
+returns-3 c = does-at _ (c .before .before .before .before .before .before .before .args .packet .now) _ _ _ _ (c .before .before .before .command-of .ensures) 0x04 (c .before .before .match .keys3) (leaves _ _ _ _ _ _ _ _ _ _ (c .closing .ensures) (rw (c .before .flash-note .ensures)) refl refl refl refl)
+
+returns-4 : tie.Need-returns-4
+unfolding kind effect
+returns-4 c = does-at _ (c .before .before .before .before .before .before .before .args .packet .now) _ _ _ _ (c .before .before .before .command-of .ensures) 0x05 (c .before .before .match .keys4) (leaves _ _ _ _ _ _ _ _ _ _ (c .leaving3 .ensures) refl (rw (c .before .begin-of2 .ensures)) refl refl refl)
+
+returns-5 : tie.Need-returns-5
+unfolding kind effect
+returns-5 c = does-at _ (c .before .before .before .before .before .before .before .args .packet .now) _ _ _ _ (c .before .before .before .command-of .ensures) 0x06 (c .before .before .match .keys5) (leaves _ _ _ _ _ _ _ _ _ _ (c .closing2 .ensures) (rw (c .before .memory-note .ensures)) refl refl refl refl)
+
+same-length-2 : tie.Need-same-length-2
+same-length-2 c = search needs
+
+returns-6 : tie.Need-returns-6
+unfolding kind effect
+returns-6 c = let a = c .before .before .before .before .before .before .before .before .before .before .before .before .before .args in let d = memory-data _ (a .session) (a .packet .now) _ (c .before .before .before .before .before .before .before .before .before .command-of .ensures) (c .before .before .before .before .before .before .before .before .before .before .before .before .before .pre .0) (c .before .before .before .before .before .before .before .before .match .keys6) in let w = rw (c .before .before .before .before .before .before .before .announced-by2 .ensures, c .before .before .before .before .before .before .accepted-by2 .ensures) at (c .before .before .before .before .write-words .ensures) in does-at _ (a .packet .now) _ _ _ _ (c .before .before .before .before .before .before .before .before .before .command-of .ensures) 0x07 (c .before .before .before .before .before .before .before .before .match .keys6) (leaves _ _ _ _ _ _ _ _ _ _ (c .leaving4 .ensures) refl (c .before .advanced-by2 .ensures) refl refl (w ∙ words-written (a .flash .now) (a .words .now) (a .packet .now) (a .session) (c .before .before .before .before .before .before .before .before .before .before .before .before .before .pre .1) d))
+
+returns-7 : tie.Need-returns-7
+unfolding kind effect
+returns-7 c = does-at _ (c .before .before .before .before .before .before .args .packet .now) _ _ _ _ (c .before .before .command-of .ensures) 0x08 (c .before .match .keys7) (leaves _ _ _ _ _ _ _ _ _ _ (c .leaving5 .ensures) refl refl refl refl refl)
+
+same-length-3 : tie.Need-same-length-3
+same-length-3 c = search needs
+
+returns-8 : tie.Need-returns-8
+unfolding kind effect
+returns-8 c = does-at _ (c .before .before .before .before .before .before .before .before .before .before .args .packet .now) _ _ _ _ (c .before .before .before .before .before .before .command-of .ensures) 0x09 (c .before .before .before .before .before .match .keys8) (leaves _ _ _ _ _ _ _ _ _ _ (c .leaving6 .ensures) refl refl refl refl (c .before .before .before .write-register .ensures))
+
+same-length-4 : tie.Need-same-length-4
+same-length-4 c = search needs
+
+returns-9 : tie.Need-returns-9
+unfolding kind effect
+returns-9 c = does-at _ (c .before .before .before .before .before .before .before .args .packet .now) _ _ _ _ (c .before .before .before .command-of .ensures) 0x0A (c .before .before .match .keys9) (record { reply = rw (c .read-register .ensures); session = refl; attach = refl; in-flash = refl; in-words = refl })
+
+returns-10 : tie.Need-returns-10
+unfolding kind effect
+returns-10 c = does-at _ (c .before .before .before .before .before .before .before .args .packet .now) _ _ _ _ (c .before .before .before .command-of .ensures) 0x0D (c .before .before .match .keys10) (leaves _ _ _ _ _ _ _ _ _ _ (c .leaving7 .ensures) refl refl (c .before .word-at .ensures) refl refl)
+
+returns-11 : tie.Need-returns-11
+unfolding effect
+returns-11 c = does-none _ (c .before .before .before .before .before .before .args .packet .now) _ _ _ _ (c .before .before .command-of .ensures) (kind-none _ (c .before .match .rest)) (leaves _ _ _ _ _ _ _ _ _ _ (c .leaving8 .ensures) refl refl refl refl refl)
+
+pub carry-out-spec : {M : Type 1} → statement M
+carry-out-spec =
+    tie.close
+    (tie.spec
+    command-of-requires
+    begin-of-requires
+    leaving-requires
+    announced-by-requires
+    accepted-by-requires
+    write-flash-requires
+    advanced-by-requires
+    leaving-requires-2
+    flash-note-requires
+    closing-requires
+    begin-of-requires-2
+    leaving-requires-3
+    memory-note-requires
+    closing-requires-2
+    announced-by-requires-2
+    accepted-by-requires-2
+    write-words-requires
+    advanced-by-requires-2
+    leaving-requires-4
+    leaving-requires-5
+    write-register-requires
+    leaving-requires-6
+    read-register-requires
+    word-at-requires
+    leaving-requires-7
+    leaving-requires-8
+    returns
+    same-length
+    returns-2
+    returns-3
+    returns-4
+    returns-5
+    same-length-2
+    returns-6
+    returns-7
+    same-length-3
+    returns-8
+    same-length-4
+    returns-9
+    returns-10
+    returns-11)

@@ -1,0 +1,50 @@
+-- What a closed packet does: "only a read one is answered"; "a failed command changes neither session, flash, words nor attach word".
+use mathlib.Core.Path.{_≡_}
+use mathlib.Core.List.{List}
+use mathlib.Core.Bool.{cond}
+use Prim.Native.Nat.{ℕ}
+use lib.Dec.{eqb}
+use Rattle.framing.specs.Packets.{Packet, dropped, read}
+use Rattle.commands.specs.Header.{command}
+use Rattle.sessions.specs.Errors.{kind, errorOf}
+use Rattle.effects.specs.Core.{Core, lengths}
+use Rattle.effects.specs.Effects.{effect}
+use Rattle.effects.specs.declared.Done.{Done}
+use Rattle.effects.specs.declared.Note.{Note}
+use Rattle.effects.specs.declared.Note.the-variants.{Nothing}
+
+-- what a packet is answered with: nothing, or its command with an error, a value, and what the caller is told
+pub data Reply : Type 0 where
+  nothing : Reply
+  replied : (command error value : ℕ) → Note → Reply
+
+pub record Handled : Type 0 where
+  pub reply : Reply
+  pub core : Core
+
+-- a good command carried out
+unfoldable pub carriedOut : Core → List ℕ → Handled
+carriedOut c p =
+    record {
+      reply = replied (command p) 0 (effect (kind (command p)) c p .value) (effect (kind (command p)) c p .note);
+      core = effect (kind (command p)) c p .core;
+    }
+
+-- a command that failed
+unfoldable pub failed : Core → List ℕ → ℕ → Handled
+failed c p error = record { reply = replied (command p) error 0 Nothing; core = c }
+
+unfoldable pub handle : Core → Packet → Handled
+handle c dropped = record { reply = nothing; core = c }
+handle c (read p) =
+    cond (eqb (errorOf (lengths c) (c .session) p) 0)
+    (carriedOut c p)
+    (failed c p (errorOf (lengths c) (c .session) p))
+
+-- the command's answer and all that it leaves are those of h
+pub record Does (h : Handled) (number : ℕ) (r : Done) (flash words : List ℕ) : Type 0 where
+  pub reply : h .reply ≡ replied number (r .error) (r .value) (r .note)
+  pub session : r .session ≡ h .core .session
+  pub attach : r .attach ≡ h .core .attach
+  pub in-flash : flash ≡ h .core .flash
+  pub in-words : words ≡ h .core .words

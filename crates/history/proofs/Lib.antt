@@ -1,0 +1,7 @@
+pub mod Goodness
+pub mod Reader
+pub mod Sessions
+pub mod Flash
+pub mod Lengths
+pub mod Agreement
+pub mod Theorems

@@ -1,0 +1,3 @@
+pub mod Holder
+pub mod Sizes
+pub mod Writing

@@ -1,0 +1,17 @@
+use borrow.Author.Needs.{needs}
+use Rattle.link_frames.specs.Reading.{begins}
+use Rattle.link_frames.proofs.is_begun.Statement.{statement}
+use Rattle.link_frames.proofs.is_begun.Tie as tie
+
+is-known-requires : tie.Need-is-known-requires
+is-known-requires c κs = search needs
+
+size-of-requires : tie.Need-size-of-requires
+size-of-requires c κs = search needs
+
+returns : tie.Need-returns
+unfolding begins
+returns c = rw (c .before .is-known .ensures, c .size-of .ensures)
+
+pub is-begun-spec : {M : Type 1} → statement M
+is-begun-spec = tie.close (tie.spec is-known-requires size-of-requires returns)

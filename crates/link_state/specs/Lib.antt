@@ -1,0 +1,5 @@
+pub mod Clock
+pub mod Link
+pub mod Silence
+pub mod Sound
+pub mod Refusals

@@ -1,0 +1,76 @@
+// The operations, by their names in the table.
+use crate::table::TAB;
+use crate::table::part;
+use crate::table::past;
+
+// Each name has the number of its place here.
+const NAMES: [u8; 144] = *b"\
+    checksum\tcommand\tsize\tvalue\taddress\tmerge\tpack\t\
+    frame\tunframe\tanswer\tcloses\terrors\t\
+    flash\terased\t\
+    pull\thear\tsend\tpoll\trate\tphase\tsent\thanded\theard\t";
+
+pub const CHECKSUM: u8 = 0;
+
+pub const COMMAND: u8 = 1;
+
+pub const SIZE: u8 = 2;
+
+pub const VALUE: u8 = 3;
+
+pub const ADDRESS: u8 = 4;
+
+pub const MERGE: u8 = 5;
+
+pub const PACK: u8 = 6;
+
+pub const FRAME: u8 = 7;
+
+pub const UNFRAME: u8 = 8;
+
+pub const ANSWER: u8 = 9;
+
+pub const CLOSES: u8 = 10;
+
+pub const ERRORS: u8 = 11;
+
+pub const FLASH: u8 = 12;
+
+pub const ERASED: u8 = 13;
+
+pub const PULL: u8 = 14;
+
+pub const HEAR: u8 = 15;
+
+pub const SEND: u8 = 16;
+
+pub const POLL: u8 = 17;
+
+pub const RATE: u8 = 18;
+
+pub const PHASE: u8 = 19;
+
+pub const SENT: u8 = 20;
+
+pub const HANDED: u8 = 21;
+
+pub const HEARD: u8 = 22;
+
+// No operation has it.
+pub const UNKNOWN: u8 = 255;
+
+// The number of a name, which a tab ends.
+pub fn number_of(name: &[u8]) -> u8 {
+    let names = NAMES;
+    let mut number: u8 = 0;
+    let mut at: usize = 0;
+    while at < 144 {
+        let next = past(&names, at, TAB);
+        if lists::same(name, part(&names, at, next)) {
+            return number;
+        }
+        number = std::num::wrapping_add_u8(number, 1);
+        at = next;
+    }
+    UNKNOWN
+}
