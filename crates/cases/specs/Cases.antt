@@ -14,7 +14,7 @@ use Rattle.link_frames.specs.Frames.{baudRate, dataFrame}
 use Rattle.link_state.specs.Clock.{elapsed}
 use Rattle.link_state.specs.Link.{fresh, inBaud, inOpen, withDead}
 use Rattle.link_state.specs.Silence.{checked}
-use Rattle.link_state.specs.Refusals.{sendChecks}
+use Rattle.link_state.specs.Refusals.{shortestBuffer, sendChecks}
 use Rattle.link.specs.Step.{pollStep, sendStep}
 use Rattle.link_state.specs.declared.Link.{Link}
 use Rattle.cases.specs.Feeding.{Lending, begun, fed, framedAll, sends}
@@ -69,7 +69,7 @@ pub record Starred : Type 0 where
   -- 11. "115200: 03 00 C2 01 00 C0": the frame, and what a link in Baud makes of its bytes
   pub case-11-frame : baudRate 115200 ≡ 0x03 ∷ 0x00 ∷ 0xC2 ∷ 0x01 ∷ 0x00 ∷ 0xC0 ∷ []
   pub case-11-read :
-      (tick : ℕ) → tick < 2 ^ 32 → (buffer : List ℕ) → 67 ≤ length buffer
+      (tick : ℕ) → tick < 2 ^ 32 → (buffer : List ℕ) → shortestBuffer ≤ length buffer
       → receives (inBaud tick) tick buffer (0x03 ∷ 0x00 ∷ 0xC2 ∷ 0x01 ∷ 0x00 ∷ 0xC0 ∷ []) ≡ inOpen 115200 tick
   -- 12. "Data 48 49: 05 02 48 49 06": the frame, and what a call that is not refused sends
   pub case-12-frame : dataFrame (0x48 ∷ 0x49 ∷ []) ≡ 0x05 ∷ 0x02 ∷ 0x48 ∷ 0x49 ∷ 0x06 ∷ []

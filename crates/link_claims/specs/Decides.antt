@@ -4,6 +4,8 @@ use mathlib.Core.List.{List, _∷_}
 use mathlib.Core.Bool.{true, false}
 use Prim.Native.Nat.{ℕ, _≤_}
 use lib.ListN.{length}
+use Rattle.link_frames.specs.Frames.{mostContents}
+use Rattle.link_state.specs.Refusals.{shortestBuffer}
 use Rattle.link_state.specs.Sound.{sound}
 use Rattle.link.specs.Step.{byteStep}
 use Rattle.link_state.specs.declared.Link.{Link}
@@ -13,7 +15,7 @@ pub record Coming : Type 0 where
   pub byte : ℕ
   pub tick : ℕ
   pub buffer : List ℕ
-  pub wide : 67 ≤ length buffer
+  pub wide : shortestBuffer ≤ length buffer
 
 -- the record holds nothing, at once or after one of these bytes
 pub data Empties : Link → List Coming → Type 0 where
@@ -23,4 +25,4 @@ pub data Empties : Link → List Coming → Type 0 where
 -- whatever a record that refusal 5 lets pass holds, out of dead time 67 bytes decide, at whatever ticks
 abbrev pub Decides : Type 0
 Decides =
-    (l : Link) → sound l ≡ true → length (l .frame) ≡ 65 → l .dead ≡ false → (cs : List Coming) → 67 ≤ length cs → Empties l cs
+    (l : Link) → sound l ≡ true → length (l .frame) ≡ mostContents → l .dead ≡ false → (cs : List Coming) → 67 ≤ length cs → Empties l cs

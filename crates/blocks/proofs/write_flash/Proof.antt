@@ -65,13 +65,33 @@ same-length : tie.Need-same-length
 same-length c = search needs
 
 returns : tie.Need-returns
-returns c = let a = c .before .before .before .before .before .before .before .before .before .before .before .before .before .before .before .before .before .before .args in let last = rw (c .before .before .before .before .before .before .before .before .before .before .before .round-up .ensures) at (c .before .before .before .before .before .before .before .before .before .if2 .taken) in block-written (a .begin) (a .k) _ _ (a .packet .now) (a .flash .now) (c .before .before .before .before .before .before .before .before .before .before .before .before .before .before .before .reach .ensures) (c .before .before .before .before .before .before .before .before .before .before .before .before .before .before .reach-after .ensures) (c .before .before .before .before .before .before .before .before .before .before .if1 .taken) last _ _ (c .before .before .before .before .before .before .copy-at .ensures) (rw (c .before .before .before .before .before .before .before .before .before .before .before .round-up .ensures) at (c .before .before .fill .ensures))
+returns c =
+    let at-fill = c .before .before in
+    let at-copy-at = at-fill .before .before .before .before in
+    let at-if2 = at-copy-at .before .before .before in
+    let at-if1 = at-if2 .before in
+    let at-round-up = at-if1 .before in
+    let at-reach-after = at-round-up .before .before .before in
+    let at-reach = at-reach-after .before in
+    let start = at-reach .before .before .before in
+    let a = start .args in
+    let last = rw (at-round-up .round-up .ensures) at (at-if2 .if2 .taken) in
+    block-written (a .begin) (a .k) _ _ (a .packet .now) (a .flash .now) (at-reach .reach .ensures) (at-reach-after .reach-after .ensures) (at-if1 .if1 .taken) last _ _ (at-copy-at .copy-at .ensures) (rw (at-round-up .round-up .ensures) at (at-fill .fill .ensures))
 
 returns-2 : tie.Need-returns-2
-returns-2 c = let a = c .before .before .before .before .before .before .before .before .before .args in no-sector (a .begin) (a .k) _ _ (a .packet .now) (a .flash .now) (c .before .before .before .before .before .before .reach .ensures) (c .before .before .before .before .before .reach-after .ensures) (c .before .if1 .taken) (rw (c .before .before .round-up .ensures) at (c .if2 .left))
+returns-2 c =
+    let at-round-up = c .before .before in
+    let at-reach-after = at-round-up .before .before .before in
+    let at-reach = at-reach-after .before in
+    let start = at-reach .before .before .before in
+    let a = start .args in no-sector (a .begin) (a .k) _ _ (a .packet .now) (a .flash .now) (at-reach .reach .ensures) (at-reach-after .reach-after .ensures) (c .before .if1 .taken) (rw (at-round-up .round-up .ensures) at (c .if2 .left))
 
 returns-3 : tie.Need-returns-3
-returns-3 c = let a = c .before .before .before .before .before .before .before .before .args in too-short (a .begin) (a .k) _ _ (a .packet .now) (a .flash .now) (c .before .before .before .before .before .reach .ensures) (c .before .before .before .before .reach-after .ensures) (c .if1 .left)
+returns-3 c =
+    let at-reach-after = c .before .before .before .before in
+    let at-reach = at-reach-after .before in
+    let start = at-reach .before .before .before in
+    let a = start .args in too-short (a .begin) (a .k) _ _ (a .packet .now) (a .flash .now) (at-reach .reach .ensures) (at-reach-after .reach-after .ensures) (c .if1 .left)
 
 pub write-flash-spec : {M : Type 1} → statement M
 write-flash-spec =

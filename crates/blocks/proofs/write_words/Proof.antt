@@ -39,10 +39,21 @@ same-length : tie.Need-same-length
 same-length c = search needs
 
 returns : tie.Need-returns
-returns c = let a = c .before .before .before .before .before .before .before .before .before .before .before .before .args in words-written (a .begin) (a .k) _ _ _ (a .packet .now) (a .words .now) (c .before .before .before .before .before .before .before .before .before .reach .ensures) (c .before .before .before .before .before .before .before .before .reach-after .ensures) (c .before .before .before .before .before .before .place-of .ensures) _ (omega arith) (c .before .before .pack-at .ensures)
+returns c =
+    let at-pack-at = c .before .before in
+    let at-place-of = at-pack-at .before .before .before .before in
+    let at-reach-after = at-place-of .before .before in
+    let at-reach = at-reach-after .before in
+    let start = at-reach .before .before .before in
+    let a = start .args in words-written (a .begin) (a .k) _ _ _ (a .packet .now) (a .words .now) (at-reach .reach .ensures) (at-reach-after .reach-after .ensures) (at-place-of .place-of .ensures) _ (omega arith) (at-pack-at .pack-at .ensures)
 
 returns-2 : tie.Need-returns-2
-returns-2 c = let a = c .before .before .before .before .before .before .before .before .args in no-places (a .begin) (a .k) _ _ _ (a .packet .now) (a .words .now) (c .before .before .before .before .before .reach .ensures) (c .before .before .before .before .reach-after .ensures) (c .before .before .place-of .ensures) (omega arith)
+returns-2 c =
+    let at-place-of = c .before .before in
+    let at-reach-after = at-place-of .before .before in
+    let at-reach = at-reach-after .before in
+    let start = at-reach .before .before .before in
+    let a = start .args in no-places (a .begin) (a .k) _ _ _ (a .packet .now) (a .words .now) (at-reach .reach .ensures) (at-reach-after .reach-after .ensures) (at-place-of .place-of .ensures) (omega arith)
 
 returns-3 : tie.Need-returns-3
 returns-3 c = let a = c .before .before .before .before .before .before .before .args in no-places (a .begin) (a .k) _ _ _ (a .packet .now) (a .words .now) (c .before .before .before .before .reach .ensures) (c .before .before .before .reach-after .ensures) (c .before .place-of .ensures) (omega arith)

@@ -29,7 +29,14 @@ write-flash-requires : tie.Need-write-flash-requires
 write-flash-requires c κs = search needs
 
 advanced-by-requires : tie.Need-advanced-by-requires
-advanced-by-requires c κs = let a = c .before .before .before .before .before .before .before .before .before .before .before .args in let d = flash-data _ (a .session) (a .packet .now) _ (c .before .before .before .before .before .before .before .command-of .ensures) (c .before .before .before .before .before .before .before .before .before .before .before .pre .0) (c .before .before .before .before .before .before .match .keys2) in omega (arith, rw (← (c .before .before .before .before .before .announced-by .ensures)) at (d .more), c .before .before .before .before .before .announced-by .ok .1 .1 .0)
+advanced-by-requires c κs =
+    let at-announced-by = c .before .before .before .before .before in
+    let at-match = at-announced-by .before in
+    let at-command-of = at-match .before in
+    let start = at-command-of .before .before .before .before in
+    let a = start .args in
+    let d = flash-data _ (a .session) (a .packet .now) _ (at-command-of .command-of .ensures) (start .pre .0) (at-match .match .keys2) in
+    omega (arith, rw (← (at-announced-by .announced-by .ensures)) at (d .more), at-announced-by .announced-by .ok .1 .1 .0)
 
 leaving-requires-2 : tie.Need-leaving-requires-2
 leaving-requires-2 c κs = search needs
@@ -62,7 +69,14 @@ write-words-requires : tie.Need-write-words-requires
 write-words-requires c κs = search needs
 
 advanced-by-requires-2 : tie.Need-advanced-by-requires-2
-advanced-by-requires-2 c κs = let a = c .before .before .before .before .before .before .before .before .before .before .before .args in let d = memory-data _ (a .session) (a .packet .now) _ (c .before .before .before .before .before .before .before .command-of .ensures) (c .before .before .before .before .before .before .before .before .before .before .before .pre .0) (c .before .before .before .before .before .before .match .keys6) in omega (arith, rw (← (c .before .before .before .before .before .announced-by2 .ensures)) at (d .more), c .before .before .before .before .before .announced-by2 .ok .1 .1 .0)
+advanced-by-requires-2 c κs =
+    let at-announced-by2 = c .before .before .before .before .before in
+    let at-match = at-announced-by2 .before in
+    let at-command-of = at-match .before in
+    let start = at-command-of .before .before .before .before in
+    let a = start .args in
+    let d = memory-data _ (a .session) (a .packet .now) _ (at-command-of .command-of .ensures) (start .pre .0) (at-match .match .keys6) in
+    omega (arith, rw (← (at-announced-by2 .announced-by2 .ensures)) at (d .more), at-announced-by2 .announced-by2 .ok .1 .1 .0)
 
 leaving-requires-4 : tie.Need-leaving-requires-4
 leaving-requires-4 c κs = search needs
@@ -97,7 +111,17 @@ same-length c = search needs
 
 returns-2 : tie.Need-returns-2
 unfolding kind effect
-returns-2 c = let a = c .before .before .before .before .before .before .before .before .before .before .before .before .before .args in let d = flash-data _ (a .session) (a .packet .now) _ (c .before .before .before .before .before .before .before .before .before .command-of .ensures) (c .before .before .before .before .before .before .before .before .before .before .before .before .before .pre .0) (c .before .before .before .before .before .before .before .before .match .keys2) in let w = rw (c .before .before .before .before .before .before .before .announced-by .ensures, c .before .before .before .before .before .before .accepted-by .ensures) at (c .before .before .before .before .write-flash .ensures) in does-at _ (a .packet .now) _ _ _ _ (c .before .before .before .before .before .before .before .before .before .command-of .ensures) 0x03 (c .before .before .before .before .before .before .before .before .match .keys2) (leaves _ _ _ _ _ _ _ _ _ _ (c .leaving2 .ensures) refl (c .before .advanced-by .ensures) refl (w ∙ flash-written (a .flash .now) (a .words .now) (a .packet .now) (a .session) (c .before .before .before .before .before .before .before .before .before .before .before .before .before .pre .1) d) refl)
+returns-2 c =
+    let at-write-flash = c .before .before .before .before in
+    let at-accepted-by = at-write-flash .before .before in
+    let at-announced-by = at-accepted-by .before in
+    let at-match = at-announced-by .before in
+    let at-command-of = at-match .before in
+    let start = at-command-of .before .before .before .before in
+    let a = start .args in
+    let d = flash-data _ (a .session) (a .packet .now) _ (at-command-of .command-of .ensures) (start .pre .0) (at-match .match .keys2) in
+    let w = rw (at-announced-by .announced-by .ensures, at-accepted-by .accepted-by .ensures) at (at-write-flash .write-flash .ensures) in
+    does-at _ (a .packet .now) _ _ _ _ (at-command-of .command-of .ensures) 0x03 (at-match .match .keys2) (leaves _ _ _ _ _ _ _ _ _ _ (c .leaving2 .ensures) refl (c .before .advanced-by .ensures) refl (w ∙ flash-written (a .flash .now) (a .words .now) (a .packet .now) (a .session) (start .pre .1) d) refl)
 
 returns-3 : tie.Need-returns-3
 unfolding kind effect
@@ -116,7 +140,17 @@ same-length-2 c = search needs
 
 returns-6 : tie.Need-returns-6
 unfolding kind effect
-returns-6 c = let a = c .before .before .before .before .before .before .before .before .before .before .before .before .before .args in let d = memory-data _ (a .session) (a .packet .now) _ (c .before .before .before .before .before .before .before .before .before .command-of .ensures) (c .before .before .before .before .before .before .before .before .before .before .before .before .before .pre .0) (c .before .before .before .before .before .before .before .before .match .keys6) in let w = rw (c .before .before .before .before .before .before .before .announced-by2 .ensures, c .before .before .before .before .before .before .accepted-by2 .ensures) at (c .before .before .before .before .write-words .ensures) in does-at _ (a .packet .now) _ _ _ _ (c .before .before .before .before .before .before .before .before .before .command-of .ensures) 0x07 (c .before .before .before .before .before .before .before .before .match .keys6) (leaves _ _ _ _ _ _ _ _ _ _ (c .leaving4 .ensures) refl (c .before .advanced-by2 .ensures) refl refl (w ∙ words-written (a .flash .now) (a .words .now) (a .packet .now) (a .session) (c .before .before .before .before .before .before .before .before .before .before .before .before .before .pre .1) d))
+returns-6 c =
+    let at-write-words = c .before .before .before .before in
+    let at-accepted-by2 = at-write-words .before .before in
+    let at-announced-by2 = at-accepted-by2 .before in
+    let at-match = at-announced-by2 .before in
+    let at-command-of = at-match .before in
+    let start = at-command-of .before .before .before .before in
+    let a = start .args in
+    let d = memory-data _ (a .session) (a .packet .now) _ (at-command-of .command-of .ensures) (start .pre .0) (at-match .match .keys6) in
+    let w = rw (at-announced-by2 .announced-by2 .ensures, at-accepted-by2 .accepted-by2 .ensures) at (at-write-words .write-words .ensures) in
+    does-at _ (a .packet .now) _ _ _ _ (at-command-of .command-of .ensures) 0x07 (at-match .match .keys6) (leaves _ _ _ _ _ _ _ _ _ _ (c .leaving4 .ensures) refl (c .before .advanced-by2 .ensures) refl refl (w ∙ words-written (a .flash .now) (a .words .now) (a .packet .now) (a .session) (start .pre .1) d))
 
 returns-7 : tie.Need-returns-7
 unfolding kind effect
@@ -127,7 +161,12 @@ same-length-3 c = search needs
 
 returns-8 : tie.Need-returns-8
 unfolding kind effect
-returns-8 c = does-at _ (c .before .before .before .before .before .before .before .before .before .before .args .packet .now) _ _ _ _ (c .before .before .before .before .before .before .command-of .ensures) 0x09 (c .before .before .before .before .before .match .keys8) (leaves _ _ _ _ _ _ _ _ _ _ (c .leaving6 .ensures) refl refl refl refl (c .before .before .before .write-register .ensures))
+returns-8 c =
+    let at-write-register = c .before .before .before in
+    let at-match = at-write-register .before .before in
+    let at-command-of = at-match .before in
+    let start = at-command-of .before .before .before .before in
+    does-at _ (start .args .packet .now) _ _ _ _ (at-command-of .command-of .ensures) 0x09 (at-match .match .keys8) (leaves _ _ _ _ _ _ _ _ _ _ (c .leaving6 .ensures) refl refl refl refl (at-write-register .write-register .ensures))
 
 same-length-4 : tie.Need-same-length-4
 same-length-4 c = search needs

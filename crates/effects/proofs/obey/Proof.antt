@@ -27,7 +27,13 @@ same-length-2 : tie.Need-same-length-2
 same-length-2 c = search needs
 
 returns-2 : tie.Need-returns-2
-returns-2 c = obeyed-done _ (c .before .before .before .before .before .before .before .before .before .before .before .before .before .args .packet .now) _ _ (c .before .before .before .before .before .before .before .before .before .if-sound .ensures) (c .before .before .before .before .before .before .before .before .error-of .ensures) (c .before .before .before .before .before .before .before .if1 .left) _ _ _ (c .before .before .before .before .carry-out .ensures)
+returns-2 c =
+    let at-carry-out = c .before .before .before .before in
+    let at-if1 = at-carry-out .before .before .before in
+    let at-error-of = at-if1 .before in
+    let at-if-sound = at-error-of .before in
+    let start = at-if-sound .before .before .before .before in
+    obeyed-done _ (start .args .packet .now) _ _ (at-if-sound .if-sound .ensures) (at-error-of .error-of .ensures) (at-if1 .if1 .left) _ _ _ (at-carry-out .carry-out .ensures)
 
 pub obey-spec : {M : Type 1} → statement M
 obey-spec =

@@ -21,7 +21,10 @@ copy-at-requires : tie.Need-copy-at-requires
 copy-at-requires c κs = search needs
 
 returns : tie.Need-returns
-returns c = let xs = c .before .before .before .before .before .args .frame .now in let n : length xs ≡ 65 = search needs in c .before .copy-at .ensures ∙ all-written _ xs n
+returns c =
+    let xs = c .before .before .before .before .before .args .frame .now in
+    let n : length xs ≡ 65 = search needs in
+    c .before .copy-at .ensures ∙ all-written _ xs n
 
 pub contents-spec : {M : Type 1} → statement M
 contents-spec =

@@ -35,13 +35,18 @@ feed-requires : tie.Need-feed-requires Inv-loop μ-loop
 feed-requires c κs = search needs
 
 add-i : tie.Need-add-i Inv-loop μ-loop
-add-i c = omega (arith, c .before .before .before .before .before .before .before .before .before .before .before .before .before .before .before .before .before .loop-test .taken, c .before .before .before .before .before .before .before .before .before .before .before .before .before .before .before .before .before .before .before .before .before .before .before .before .before .good .1 .0 .0)
+add-i c =
+    let at-loop-test = c .before .before .before .before .before .before .before .before .before .before .before .before .before .before .before .before .before in
+    let start = at-loop-test .before .before .before .before .before .before .before .before in
+    omega (arith, at-loop-test .loop-test .taken, start .good .1 .0 .0)
 
 array-share-prefix-text : tie.Need-array-share-prefix-text Inv-loop μ-loop
 array-share-prefix-text c = used-fits (c .before .before .before .before .before .before .before .before .before .before .before)
 
 slice-aggregate-write-out : tie.Need-slice-aggregate-write-out Inv-loop μ-loop
-slice-aggregate-write-out c = sym (length-take-le _ (c .before .before .before .before .before .before .before .before .before .before .before .before .feed .last .1 .1 .1 .1 .1 .1 .0) (used-fits (c .before .before .before .before .before .before .before .before .before .before .before .before)))
+slice-aggregate-write-out c =
+    let at-feed = c .before .before .before .before .before .before .before .before .before .before .before .before in
+    sym (length-take-le _ (at-feed .feed .last .1 .1 .1 .1 .1 .1 .0) (used-fits (c .before .before .before .before .before .before .before .before .before .before .before .before)))
 
 write-out-requires : tie.Need-write-out-requires Inv-loop μ-loop
 write-out-requires c κs = search needs
@@ -50,19 +55,35 @@ loop-less : tie.Need-loop-less Inv-loop μ-loop
 loop-less c = search needs
 
 loop-again : tie.Need-loop-again Inv-loop μ-loop
-loop-again c = (omega arith, omega (arith, c .before .before .before .before .before .before .before .before .before .before .before .before .before .before .before .before .before .before .before .before .before .loop-test .taken), c .before .before .before .before .before .before .before .before .before .before .before .before .before .before .feed .kept .1 .1 .1 .1 .1 .1 .0 ∙ c .before .before .before .before .before .before .before .before .before .before .before .before .before .before .before .before .before .before .before .before .before .before .loop .inv .2, c .before .before .before .before .before .before .before .before .before .before .before .before .before .before .feed .kept .1 .1 .0 ∙ c .before .before .before .before .before .before .before .before .before .before .before .before .before .before .before .before .before .before .before .before .before .before .loop .inv .3, c .before .before .before .before .before .before .before .before .before .before .before .before .before .before .feed .kept .1 .1 .1 .0 ∙ c .before .before .before .before .before .before .before .before .before .before .before .before .before .before .before .before .before .before .before .before .before .before .loop .inv .4, c .before .before .before .before .before .before .before .before .before .before .before .before .before .before .feed .kept .1 .1 .1 .1 .0 ∙ c .before .before .before .before .before .before .before .before .before .before .before .before .before .before .before .before .before .before .before .before .before .before .loop .inv .5, c .before .before .before .before .before .before .before .before .before .before .before .before .before .before .feed .kept .1 .1 .1 .1 .1 .0 ∙ c .before .before .before .before .before .before .before .before .before .before .before .before .before .before .before .before .before .before .before .before .before .before .loop .inv .6)
+loop-again c =
+    let at-feed = c .before .before .before .before .before .before .before .before .before .before .before .before .before .before in
+    let at-loop-test = at-feed .before .before .before .before .before .before .before in
+    let at-loop = at-loop-test .before in
+    (omega arith, omega (arith, at-loop-test .loop-test .taken), at-feed .feed .kept .1 .1 .1 .1 .1 .1 .0 ∙ at-loop .loop .inv .2, at-feed .feed .kept .1 .1 .0 ∙ at-loop .loop .inv .3, at-feed .feed .kept .1 .1 .1 .0 ∙ at-loop .loop .inv .4, at-feed .feed .kept .1 .1 .1 .1 .0 ∙ at-loop .loop .inv .5, at-feed .feed .kept .1 .1 .1 .1 .1 .0 ∙ at-loop .loop .inv .6)
 
 same-length : tie.Need-same-length Inv-loop μ-loop
-same-length c = c .before .before .before .before .before .before .before .before .before .before .before .before .before .before .feed .kept .1 .1 .0 ∙ c .before .before .before .before .before .before .before .before .before .before .before .before .before .before .before .before .before .before .before .before .before .before .loop .inv .3
+same-length c =
+    let at-feed = c .before .before .before .before .before .before .before .before .before .before .before .before .before .before in
+    let at-loop = at-feed .before .before .before .before .before .before .before .before in
+    at-feed .feed .kept .1 .1 .0 ∙ at-loop .loop .inv .3
 
 same-length-2 : tie.Need-same-length-2 Inv-loop μ-loop
-same-length-2 c = c .before .before .before .before .before .before .before .before .before .before .before .before .before .before .feed .kept .1 .1 .1 .0 ∙ c .before .before .before .before .before .before .before .before .before .before .before .before .before .before .before .before .before .before .before .before .before .before .loop .inv .4
+same-length-2 c =
+    let at-feed = c .before .before .before .before .before .before .before .before .before .before .before .before .before .before in
+    let at-loop = at-feed .before .before .before .before .before .before .before .before in
+    at-feed .feed .kept .1 .1 .1 .0 ∙ at-loop .loop .inv .4
 
 same-length-3 : tie.Need-same-length-3 Inv-loop μ-loop
-same-length-3 c = c .before .before .before .before .before .before .before .before .before .before .before .before .before .before .feed .kept .1 .1 .1 .1 .0 ∙ c .before .before .before .before .before .before .before .before .before .before .before .before .before .before .before .before .before .before .before .before .before .before .loop .inv .5
+same-length-3 c =
+    let at-feed = c .before .before .before .before .before .before .before .before .before .before .before .before .before .before in
+    let at-loop = at-feed .before .before .before .before .before .before .before .before in
+    at-feed .feed .kept .1 .1 .1 .1 .0 ∙ at-loop .loop .inv .5
 
 same-length-4 : tie.Need-same-length-4 Inv-loop μ-loop
-same-length-4 c = c .before .before .before .before .before .before .before .before .before .before .before .before .before .before .feed .kept .1 .1 .1 .1 .1 .0 ∙ c .before .before .before .before .before .before .before .before .before .before .before .before .before .before .before .before .before .before .before .before .before .before .loop .inv .6
+same-length-4 c =
+    let at-feed = c .before .before .before .before .before .before .before .before .before .before .before .before .before .before in
+    let at-loop = at-feed .before .before .before .before .before .before .before .before in
+    at-feed .feed .kept .1 .1 .1 .1 .1 .0 ∙ at-loop .loop .inv .6
 
 returns : tie.Need-returns Inv-loop μ-loop
 returns c = search needs
@@ -71,7 +92,11 @@ loop-less-2 : tie.Need-loop-less-2 Inv-loop μ-loop
 loop-less-2 c = search needs
 
 loop-again-2 : tie.Need-loop-again-2 Inv-loop μ-loop
-loop-again-2 c = (omega arith, omega (arith, c .before .before .before .before .before .before .before .before .before .before .before .before .before .before .before .before .before .before .loop-test .taken), c .before .before .before .before .before .before .before .before .before .before .before .feed .kept .1 .1 .1 .1 .1 .1 .0 ∙ c .before .before .before .before .before .before .before .before .before .before .before .before .before .before .before .before .before .before .before .loop .inv .2, c .before .before .before .before .before .before .before .before .before .before .before .feed .kept .1 .1 .0 ∙ c .before .before .before .before .before .before .before .before .before .before .before .before .before .before .before .before .before .before .before .loop .inv .3, c .before .before .before .before .before .before .before .before .before .before .before .feed .kept .1 .1 .1 .0 ∙ c .before .before .before .before .before .before .before .before .before .before .before .before .before .before .before .before .before .before .before .loop .inv .4, c .before .before .before .before .before .before .before .before .before .before .before .feed .kept .1 .1 .1 .1 .0 ∙ c .before .before .before .before .before .before .before .before .before .before .before .before .before .before .before .before .before .before .before .loop .inv .5, c .before .before .before .before .before .before .before .before .before .before .before .feed .kept .1 .1 .1 .1 .1 .0 ∙ c .before .before .before .before .before .before .before .before .before .before .before .before .before .before .before .before .before .before .before .loop .inv .6)
+loop-again-2 c =
+    let at-feed = c .before .before .before .before .before .before .before .before .before .before .before in
+    let at-loop-test = at-feed .before .before .before .before .before .before .before in
+    let at-loop = at-loop-test .before in
+    (omega arith, omega (arith, at-loop-test .loop-test .taken), at-feed .feed .kept .1 .1 .1 .1 .1 .1 .0 ∙ at-loop .loop .inv .2, at-feed .feed .kept .1 .1 .0 ∙ at-loop .loop .inv .3, at-feed .feed .kept .1 .1 .1 .0 ∙ at-loop .loop .inv .4, at-feed .feed .kept .1 .1 .1 .1 .0 ∙ at-loop .loop .inv .5, at-feed .feed .kept .1 .1 .1 .1 .1 .0 ∙ at-loop .loop .inv .6)
 
 array-share-prefix-text-2 : tie.Need-array-share-prefix-text-2 Inv-loop μ-loop
 array-share-prefix-text-2 c = search needs

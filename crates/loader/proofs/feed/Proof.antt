@@ -21,13 +21,26 @@ enum-known-closing : tie.Need-enum-known-closing
 enum-known-closing c = search needs
 
 slice-reshare-prefix-act : tie.Need-slice-reshare-prefix-act
-slice-reshare-prefix-act c = let s = c .before .before .before .before .before .before in let i = s .before .before .before in let j = i .before in let a = j .before .before .before .before .before .args in whole-fits _ _ (a .packet .now) (a .answer .now) (a .flash .now) (a .words .now) _ (j .refusal-of .ensures) (i .if1 .left) _ _ (s .step .ensures) _ (c .before .closing .given .1) (s .step .kept .1 .1 .0)
+slice-reshare-prefix-act c =
+    let s = c .before .before .before .before .before .before in
+    let i = s .before .before .before in
+    let j = i .before in
+    let a = j .before .before .before .before .before .args in
+    whole-fits _ _ (a .packet .now) (a .answer .now) (a .flash .now) (a .words .now) _ (j .refusal-of .ensures) (i .if1 .left) _ _ (s .step .ensures) _ (c .before .closing .given .1) (s .step .kept .1 .1 .0)
 
 slice-aggregate-act : tie.Need-slice-aggregate-act
-slice-aggregate-act c = let s = c .before .before .before .before .before .before .before in let i = s .before .before .before in let j = i .before in let a = j .before .before .before .before .before .args in sym (length-take-le _ _ (whole-fits _ _ (a .packet .now) (a .answer .now) (a .flash .now) (a .words .now) _ (j .refusal-of .ensures) (i .if1 .left) _ _ (s .step .ensures) _ (c .before .before .closing .given .1) (s .step .kept .1 .1 .0)))
+slice-aggregate-act c =
+    let s = c .before .before .before .before .before .before .before in
+    let i = s .before .before .before in
+    let j = i .before in
+    let a = j .before .before .before .before .before .args in
+    sym (length-take-le _ _ (whole-fits _ _ (a .packet .now) (a .answer .now) (a .flash .now) (a .words .now) _ (j .refusal-of .ensures) (i .if1 .left) _ _ (s .step .ensures) _ (c .before .before .closing .given .1) (s .step .kept .1 .1 .0)))
 
 act-requires : tie.Need-act-requires
-act-requires c κs = let i = c .before .before .before .before .before .before .before .before .before .before .before .before .before in let a = allowed _ _ (sym (i .before .refusal-of .ensures) ∙ i .if1 .left) in (a .for-answer, a .session)
+act-requires c κs =
+    let i = c .before .before .before .before .before .before .before .before .before .before .before .before .before in
+    let a = allowed _ _ (sym (i .before .refusal-of .ensures) ∙ i .if1 .left) in
+    (a .for-answer, a .session)
 
 enum-known-closing-2 : tie.Need-enum-known-closing-2
 enum-known-closing-2 c = search needs
@@ -51,7 +64,12 @@ same-length-5 : tie.Need-same-length-5
 same-length-5 c = search needs
 
 returns-3 : tie.Need-returns-3
-returns-3 c = let s = c .before .before .before .before .before .before .before .before .before .before .before .before .before .before .before .before .before in let i = s .before .before .before in let j = i .before in let a = j .before .before .before .before .before .args in packet-acted _ _ (a .packet .now) (a .answer .now) (a .flash .now) (a .words .now) _ (j .refusal-of .ensures) (i .if1 .left) _ _ (s .step .ensures) _ _ _ _ _ (c .before .before .before .before .before .before .before .before .before .before .before .before .closing .given .1) (s .step .kept .1 .1 .0) (c .before .before .before .before .before .before .act .ensures)
+returns-3 c =
+    let s = c .before .before .before .before .before .before .before .before .before .before .before .before .before .before .before .before .before in
+    let i = s .before .before .before in
+    let j = i .before in
+    let a = j .before .before .before .before .before .args in
+    packet-acted _ _ (a .packet .now) (a .answer .now) (a .flash .now) (a .words .now) _ (j .refusal-of .ensures) (i .if1 .left) _ _ (s .step .ensures) _ _ _ _ _ (c .before .before .before .before .before .before .before .before .before .before .before .before .closing .given .1) (s .step .kept .1 .1 .0) (c .before .before .before .before .before .before .act .ensures)
 
 same-length-6 : tie.Need-same-length-6
 same-length-6 c = search needs

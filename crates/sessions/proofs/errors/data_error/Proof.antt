@@ -54,7 +54,22 @@ check-requires-8 c κs = search needs
 
 returns : tie.Need-returns
 unfolding dataChecks first
-returns c = rw (c .check8 .ensures, c .before .check7 .ensures, c .before .before .check6 .ensures, c .before .before .before .check5 .ensures, c .before .before .before .before .check4 .ensures, c .before .before .before .before .before .check3 .ensures, c .before .before .before .before .before .before .check2 .ensures, c .before .before .before .before .before .before .before .check .ensures, c .before .before .before .before .before .before .before .before .padding-good .ensures, c .before .before .before .before .before .before .before .before .before .sum-good .ensures, c .before .before .before .before .before .before .before .before .before .before .word-at2 .ensures, c .before .before .before .before .before .before .before .before .before .before .before .before .zero-words-good .ensures, c .before .before .before .before .before .before .before .before .before .before .before .before .before .before .word-at .ensures, c .before .before .before .before .before .before .before .before .before .before .before .before .before .before .before .data-shape-good .ensures, c .before .before .before .before .before .before .before .before .before .before .before .before .before .before .before .before .accepted-by .ensures, c .before .before .before .before .before .before .before .before .before .before .before .before .before .before .before .before .before .announced-by .ensures)
+returns c =
+    let at-check6 = c .before .before in
+    let at-check5 = at-check6 .before in
+    let at-check4 = at-check5 .before in
+    let at-check3 = at-check4 .before in
+    let at-check2 = at-check3 .before in
+    let at-check = at-check2 .before in
+    let at-padding-good = at-check .before in
+    let at-sum-good = at-padding-good .before in
+    let at-word-at2 = at-sum-good .before in
+    let at-zero-words-good = at-word-at2 .before .before in
+    let at-word-at = at-zero-words-good .before .before in
+    let at-data-shape-good = at-word-at .before in
+    let at-accepted-by = at-data-shape-good .before in
+    let at-announced-by = at-accepted-by .before in
+    rw (c .check8 .ensures, c .before .check7 .ensures, at-check6 .check6 .ensures, at-check5 .check5 .ensures, at-check4 .check4 .ensures, at-check3 .check3 .ensures, at-check2 .check2 .ensures, at-check .check .ensures, at-padding-good .padding-good .ensures, at-sum-good .sum-good .ensures, at-word-at2 .word-at2 .ensures, at-zero-words-good .zero-words-good .ensures, at-word-at .word-at .ensures, at-data-shape-good .data-shape-good .ensures, at-accepted-by .accepted-by .ensures, at-announced-by .announced-by .ensures)
 
 pub data-error-spec : {M : Type 1} → statement M
 data-error-spec =
