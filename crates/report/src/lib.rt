@@ -106,17 +106,6 @@ fn dropped_fields() -> RowFields
     [TAB, DASH, DASH, TAB, DASH, DASH, TAB, DASH, DASH, LINE_FEED]
 }
 
-fn copy_at(buffer: &mut [u8], at: usize, text: &[u8])
-    requires { ⌜ at + length (now text) ≤ length (now buffer) ⌝ }
-    ensures { λ r. ⌜ now (buffer .exit) ≡ lay (now (buffer .entry)) at (now (text .entry)) ⌝ }
-{
-    let mut i: usize = 0;
-    while i < text.len() {
-        buffer[at + i] = text[i];
-        i += 1;
-    }
-}
-
 // A line of a number and the fields behind it, from `used` on, where the buffer has the space; how many bytes are used then.
 fn write_row(number: u64, fields: &[u8], buffer: &mut [u8], used: usize) -> usize
     requires { ⌜ used + (length (decimal number) + length (now fields)) ≤ length (now buffer) ⌝ }
@@ -124,7 +113,7 @@ fn write_row(number: u64, fields: &[u8], buffer: &mut [u8], used: usize) -> usiz
         × (now (buffer .exit) ≡ lay (now (buffer .entry)) used (decimal number ++ now (fields .entry))) ⌝ }
 {
     let at = put_decimal(number, buffer, used);
-    copy_at(buffer, at, fields);
+    lists::copy_at(buffer, at, fields);
     at + fields.len()
 }
 

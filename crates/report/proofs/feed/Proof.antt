@@ -28,7 +28,10 @@ same-length-5 : tie.Need-same-length-5
 same-length-5 c = search needs
 
 returns : tie.Need-returns
-returns c = record { hands-back = c .before .before .before .before .before .before .before .before .before .before .before .before .before .before .feed .ensures .hands-back; counts = rw (← (c .before .before .before .before .before .before .before .before .before .before .before .before .before .before .feed .ensures .says)) (c .next-number .ensures); appends = rw (← (c .before .before .before .before .before .before .before .before .before .before .before .before .before .before .feed .ensures .says)) (c .before .before .before .line .ensures); packet-buffer = c .before .before .before .before .before .before .before .before .before .before .before .before .before .before .feed .ensures .packet-buffer; answer-buffer = c .before .before .before .before .before .before .before .before .before .before .before .before .before .before .feed .ensures .answer-buffer; in-flash = c .before .before .before .before .before .before .before .before .before .before .before .before .before .before .feed .ensures .in-flash; in-words = c .before .before .before .before .before .before .before .before .before .before .before .before .before .before .feed .ensures .in-words }
+returns c =
+    let at-line = c .before .before .before in
+    let at-feed = at-line .before .before .before .before .before .before .before .before .before .before .before in
+    record { hands-back = at-feed .feed .ensures .hands-back; counts = rw (← (at-feed .feed .ensures .says)) (c .next-number .ensures); appends = rw (← (at-feed .feed .ensures .says)) (at-line .line .ensures); packet-buffer = at-feed .feed .ensures .packet-buffer; answer-buffer = at-feed .feed .ensures .answer-buffer; in-flash = at-feed .feed .ensures .in-flash; in-words = at-feed .feed .ensures .in-words }
 
 pub feed-spec : {M : Type 1} → statement M
 feed-spec =

@@ -1,7 +1,9 @@
 -- The fields laid behind the number.
+use mathlib.Core.Path.{_∙_}
 use native.Mathlib.Omega.{arith}
 use lib.ListN.{length-append}
 use Rattle.lists.proofs.Laws.{lay-lay}
+use Rattle.lists.proofs.Fits.{lay-fits}
 use Rattle.report.specs.Numbers.{decimal}
 use borrow.Author.Needs.{needs}
 use Rattle.report.proofs.write_row.Statement.{statement}
@@ -20,7 +22,11 @@ same-length : tie.Need-same-length
 same-length c = search needs
 
 returns : tie.Need-returns
-returns c = (simp length-append (omega arith), rw (c .before .before .copy-at .ensures, c .before .before .before .before .before .before .put-decimal .ensures .1, c .before .before .before .before .before .before .put-decimal .ensures .0) (lay-lay (c .before .before .before .before .before .before .before .before .before .before .args .buffer .now) (c .before .before .before .before .before .before .before .before .before .before .args .used) (decimal (c .before .before .before .before .before .before .before .before .before .before .args .number)) (c .before .before .before .before .before .before .before .before .before .before .args .fields .now) (omega arith)))
+returns c =
+    let put = c .before .before .before .before .before .before in
+    let start = put .before .before .before .before in
+    let laid = c .before .before .copy-at .ensures ∙ lay-fits (put .put-decimal .last .1 .0) (put .put-decimal .result) (start .args .fields .now) (omega arith) in
+    (simp length-append (omega arith), rw (laid, put .put-decimal .ensures .1, put .put-decimal .ensures .0) (lay-lay (start .args .buffer .now) (start .args .used) (decimal (start .args .number)) (start .args .fields .now) (omega arith)))
 
 pub write-row-spec : {M : Type 1} → statement M
 write-row-spec =

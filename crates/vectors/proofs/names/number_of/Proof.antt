@@ -3,7 +3,6 @@ use Prim.Native.Nat.{_-_}
 use mathlib.Core.Path.{_≡_, refl}
 use native.Mathlib.Omega.{arith}
 use lib.ListN.{length}
-use borrow.Author.Needs.{needs}
 use Rattle.vectors.proofs.names.number_of.Statement.{statement}
 use Rattle.vectors.proofs.names.number_of.Tie as tie
 
@@ -17,13 +16,13 @@ loop-holds : tie.Need-loop-holds Inv-loop μ-loop
 loop-holds c = refl
 
 slice-aggregate-past : tie.Need-slice-aggregate-past Inv-loop μ-loop
-slice-aggregate-past c = search needs
+slice-aggregate-past c = refl
 
 past-requires : tie.Need-past-requires Inv-loop μ-loop
 past-requires c κs = tt
 
 slice-aggregate-part : tie.Need-slice-aggregate-part Inv-loop μ-loop
-slice-aggregate-part c = search needs
+slice-aggregate-part c = refl
 
 part-requires : tie.Need-part-requires Inv-loop μ-loop
 part-requires c κs = tt
@@ -41,7 +40,7 @@ loop-less : tie.Need-loop-less Inv-loop μ-loop
 loop-less c = omega (arith, c .before .before .before .before .before .past .ensures (omega arith))
 
 loop-again : tie.Need-loop-again Inv-loop μ-loop
-loop-again c = search needs
+loop-again c = refl
 
 returns-2 : tie.Need-returns-2 Inv-loop μ-loop
 returns-2 c = tt
