@@ -1,5 +1,6 @@
 // The hand unit's end of the expansion protocol, as a record that each call takes and hands back.
-use link_frames::Payload;
+pub use link_frames::Holder;
+pub use link_frames::Payload;
 pub use link_state::Link;
 pub use link_state::Phase;
 pub use link_state::new;

@@ -40,8 +40,22 @@ pub fn judge_send(link: Link, later: Link, count: usize, buffer: usize) -> u8
     let phase = later.phase;
     let alive = !later.dead;
     let free = !later.outstanding;
-    let fits = lists::check(count <= link_frames::MOST_DATA, 14, judge_buffer(buffer));
-    let ready = lists::check(later.rpc, 11, lists::check(free, 13, fits));
-    let open = lists::check(is_open(phase), 10, lists::check(alive, 12, ready));
-    lists::check(crate::is_sound(link), 5, open)
+    let count_good = count <= link_frames::MOST_DATA;
+    lists::check(
+        crate::is_sound(link),
+        5,
+        lists::check(
+            is_open(phase),
+            10,
+            lists::check(
+                alive,
+                12,
+                lists::check(
+                    later.rpc,
+                    11,
+                    lists::check(free, 13, lists::check(count_good, 14, judge_buffer(buffer))),
+                ),
+            ),
+        ),
+    )
 }

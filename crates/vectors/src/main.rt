@@ -54,19 +54,22 @@ fn run_line(probe: Probe, line: &[u8], got: &mut [u8]) -> Probe {
     next
 }
 
-fn main() {
-    let mut text = io::large_buffer();
+fn run_table(text: &[u8]) {
     let mut got = [0u8; chip::GOT];
     let mut probe = probe::new();
+    let mut at: usize = 0;
+    while at < text.len() {
+        let next = past(text, at, b'\n');
+        probe = run_line(probe, part(text, at, next), &mut got);
+        at = next;
+    }
+}
+
+fn main() {
+    let mut text = io::large_buffer();
     let n = io::read_full(STDIN_FILENO, &mut text);
     if n == text.len() {
         io::write_all(STDOUT_FILENO, b"TABLE TOO LONG\n");
     }
-    let table = part(&text, 0, n);
-    let mut at: usize = 0;
-    while at < table.len() {
-        let next = past(table, at, b'\n');
-        probe = run_line(probe, part(table, at, next), &mut got);
-        at = next;
-    }
+    run_table(part(&text, 0, n));
 }

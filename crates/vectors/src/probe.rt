@@ -112,19 +112,29 @@ fn hear(probe: Probe, bytes: &[u8], tick: u32, got: &mut [u8]) -> Probe {
     state
 }
 
-// A call at the tick that the first four bytes are, where the operation is one: a pull of a fresh link, bytes that it hears,
-// data that it sends, a poll.
+// A pull of a fresh link, data that is sent, or a poll.
+fn call_once(operation: u8, link: Link, bytes: &[u8], tick: u32, got: &mut [u8]) -> Next {
+    match operation {
+        names::PULL => link::pull(link::new(), tick, got),
+        names::SEND => link::send(link, bytes, tick, got),
+        _ => link::poll(link, tick, got),
+    }
+}
+
+// The calls of a link, where the operation is one, at the tick that the first four bytes are.
 pub fn call(probe: Probe, operation: u8, input: &[u8], got: &mut [u8]) -> Probe {
-    let link = probe.link;
+    if operation < names::PULL {
+        return probe;
+    }
+    if names::POLL < operation {
+        return probe;
+    }
     let tick = number_at(input, 0);
     let bytes = part(input, 4, input.len());
-    match operation {
-        names::PULL => after(link::pull(link::new(), tick, got), 0),
-        names::HEAR => hear(probe, bytes, tick, got),
-        names::SEND => after(link::send(link, bytes, tick, got), 0),
-        names::POLL => after(link::poll(link, tick, got), 0),
-        _ => probe,
+    if operation == names::HEAR {
+        return hear(probe, bytes, tick, got);
     }
+    after(call_once(operation, probe.link, bytes, tick, got), 0)
 }
 
 fn phase_of(link: Link) -> u8 {

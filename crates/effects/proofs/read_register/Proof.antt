@@ -1,3 +1,4 @@
+use mathlib.Core.Path.{refl}
 use Prim.Native.Nat.{_<_}
 use lib.ListN.{length}
 use Rattle.effects.proofs.Passing.{placed}
@@ -21,7 +22,7 @@ shared-slice-read-result : tie.Need-shared-slice-read-result
 shared-slice-read-result c = placed _ _ _ _ (c .before .place-of .ensures) (c .before .before .word-at .ensures) (c .before .before .before .before .before .pre)
 
 returns : tie.Need-returns
-returns c = rw (c .before .place-of .ensures, c .before .before .word-at .ensures)
+returns c = rw (c .before .place-of .ensures, c .before .before .word-at .ensures) refl
 
 pub read-register-spec : {M : Type 1} → statement M
 read-register-spec =

@@ -1,3 +1,4 @@
+use mathlib.Core.Path.{refl}
 use Prim.Native.Nat.{_<_}
 use lib.ListN.{length}
 use Rattle.effects.proofs.Passing.{placed}
@@ -39,7 +40,7 @@ same-length : tie.Need-same-length
 same-length c = search needs
 
 returns : tie.Need-returns
-returns c = rw (c .merge .ensures, c .before .word-at3 .ensures, c .before .before .word-at2 .ensures, c .before .before .before .before .place-of .ensures, c .before .before .before .before .before .word-at .ensures)
+returns c = rw (c .merge .ensures, c .before .word-at3 .ensures, c .before .before .word-at2 .ensures, c .before .before .before .before .place-of .ensures, c .before .before .before .before .before .word-at .ensures) refl
 
 pub write-register-spec : {M : Type 1} → statement M
 write-register-spec =

@@ -1,3 +1,4 @@
+use mathlib.Core.Path.{refl}
 use Rattle.sessions.specs.Session.{sessionGood}
 use borrow.Author.Needs.{needs}
 use Rattle.sessions.proofs.session_good.Statement.{statement}
@@ -20,15 +21,15 @@ memory-good-requires c κs = search needs
 
 returns : tie.Need-returns
 unfolding sessionGood
-returns c = rw (c .enum-told .given .1)
+returns c = rw (c .enum-told .given .1) refl
 
 returns-2 : tie.Need-returns-2
 unfolding sessionGood
-returns-2 c = rw (c .before .before .before .session .given .1, c .before .flash-good .ensures)
+returns-2 c = rw (c .before .before .before .session .given .1, c .before .flash-good .ensures) refl
 
 returns-3 : tie.Need-returns-3
 unfolding sessionGood
-returns-3 c = rw (c .before .before .before .session2 .given .1, c .before .memory-good .ensures)
+returns-3 c = rw (c .before .before .before .session2 .given .1, c .before .memory-good .ensures) refl
 
 pub session-good-spec : {M : Type 1} → statement M
 session-good-spec =

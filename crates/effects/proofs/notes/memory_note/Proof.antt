@@ -1,3 +1,4 @@
+use mathlib.Core.Path.{refl}
 use borrow.Author.Tests.{eq-eqb, ne-eqb}
 use borrow.Author.Needs.{needs}
 use Rattle.effects.proofs.notes.memory_note.Statement.{statement}
@@ -10,10 +11,10 @@ word-at-requires-2 : tie.Need-word-at-requires-2
 word-at-requires-2 c κs = search needs
 
 returns : tie.Need-returns
-returns c = rw (← (c .before .before .word-at .ensures), eq-eqb _ _ (c .before .if1 .taken), ← (c .word-at2 .ensures))
+returns c = rw (← (c .before .before .word-at .ensures), eq-eqb _ _ (c .before .if1 .taken), ← (c .word-at2 .ensures)) refl
 
 returns-2 : tie.Need-returns-2
-returns-2 c = rw (← (c .before .word-at .ensures), ne-eqb _ _ (c .if1 .left))
+returns-2 c = rw (← (c .before .word-at .ensures), ne-eqb _ _ (c .if1 .left)) refl
 
 pub memory-note-spec : {M : Type 1} → statement M
 memory-note-spec = tie.close (tie.spec word-at-requires word-at-requires-2 returns returns-2)

@@ -1,3 +1,4 @@
+use mathlib.Core.Path.{refl}
 use Rattle.loader.specs.Refusals.{recordGood}
 use borrow.Author.Needs.{needs}
 use Rattle.loader.proofs.refusals.record_good.Statement.{statement}
@@ -11,7 +12,7 @@ attach-good-requires c κs = search needs
 
 returns : tie.Need-returns
 unfolding recordGood
-returns c = rw (c .attach-good .ensures, c .before .session-good .ensures)
+returns c = rw (c .attach-good .ensures, c .before .session-good .ensures) refl
 
 pub record-good-spec : {M : Type 1} → statement M
 record-good-spec = tie.close (tie.spec session-good-requires attach-good-requires returns)

@@ -1,3 +1,4 @@
+use mathlib.Core.Path.{refl}
 use Rattle.loader.specs.Refusals.{refusal, bufferChecks}
 use Rattle.lists.specs.Checks.{first}
 use borrow.Author.Needs.{needs}
@@ -30,7 +31,7 @@ check-requires-5 c κs = search needs
 
 returns : tie.Need-returns
 unfolding refusal bufferChecks first
-returns c = rw (c .check5 .ensures, c .before .check4 .ensures, c .before .before .check3 .ensures, c .before .before .before .check2 .ensures, c .before .before .before .before .check .ensures, c .before .before .before .before .before .record-good .ensures, c .before .before .before .before .before .before .word-count-good .ensures, c .before .before .before .before .before .before .before .flash-length-good .ensures)
+returns c = rw (c .check5 .ensures, c .before .check4 .ensures, c .before .before .check3 .ensures, c .before .before .before .check2 .ensures, c .before .before .before .before .check .ensures, c .before .before .before .before .before .record-good .ensures, c .before .before .before .before .before .before .word-count-good .ensures, c .before .before .before .before .before .before .before .flash-length-good .ensures) refl
 
 pub refusal-of-spec : {M : Type 1} → statement M
 refusal-of-spec =

@@ -1,3 +1,4 @@
+use mathlib.Core.Path.{refl}
 use Rattle.sessions.specs.Errors.{dataChecks}
 use Rattle.lists.specs.Checks.{first}
 use borrow.Author.Needs.{needs}
@@ -69,7 +70,7 @@ returns c =
     let at-data-shape-good = at-word-at .before in
     let at-accepted-by = at-data-shape-good .before in
     let at-announced-by = at-accepted-by .before in
-    rw (c .check8 .ensures, c .before .check7 .ensures, at-check6 .check6 .ensures, at-check5 .check5 .ensures, at-check4 .check4 .ensures, at-check3 .check3 .ensures, at-check2 .check2 .ensures, at-check .check .ensures, at-padding-good .padding-good .ensures, at-sum-good .sum-good .ensures, at-word-at2 .word-at2 .ensures, at-zero-words-good .zero-words-good .ensures, at-word-at .word-at .ensures, at-data-shape-good .data-shape-good .ensures, at-accepted-by .accepted-by .ensures, at-announced-by .announced-by .ensures)
+    rw (c .check8 .ensures, c .before .check7 .ensures, at-check6 .check6 .ensures, at-check5 .check5 .ensures, at-check4 .check4 .ensures, at-check3 .check3 .ensures, at-check2 .check2 .ensures, at-check .check .ensures, at-padding-good .padding-good .ensures, at-sum-good .sum-good .ensures, at-word-at2 .word-at2 .ensures, at-zero-words-good .zero-words-good .ensures, at-word-at .word-at .ensures, at-data-shape-good .data-shape-good .ensures, at-accepted-by .accepted-by .ensures, at-announced-by .announced-by .ensures) refl
 
 pub data-error-spec : {M : Type 1} → statement M
 data-error-spec =

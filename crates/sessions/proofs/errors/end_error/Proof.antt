@@ -1,3 +1,4 @@
+use mathlib.Core.Path.{refl}
 use Rattle.sessions.specs.Errors.{endChecks}
 use Rattle.lists.specs.Checks.{first}
 use borrow.Author.Needs.{needs}
@@ -24,7 +25,7 @@ check-requires-4 c κs = search needs
 
 returns : tie.Need-returns
 unfolding endChecks first
-returns c = rw (c .check4 .ensures, c .before .check3 .ensures, c .before .before .check2 .ensures, c .before .before .before .check .ensures, c .before .before .before .before .before .accepted-by .ensures, c .before .before .before .before .before .before .announced-by .ensures)
+returns c = rw (c .check4 .ensures, c .before .check3 .ensures, c .before .before .check2 .ensures, c .before .before .before .check .ensures, c .before .before .before .before .before .accepted-by .ensures, c .before .before .before .before .before .before .announced-by .ensures) refl
 
 pub end-error-spec : {M : Type 1} → statement M
 end-error-spec =

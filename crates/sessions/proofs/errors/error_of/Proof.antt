@@ -1,3 +1,4 @@
+use mathlib.Core.Path.{refl}
 use Rattle.sessions.specs.Errors.{checks, kind}
 use Rattle.sessions.proofs.Numbers.{error-at, kind-none, error-none}
 use borrow.Author.Needs.{needs}
@@ -111,43 +112,43 @@ plain-error-requires-6 c κs = search needs
 
 returns : tie.Need-returns
 unfolding checks kind
-returns c = error-at _ _ _ 0x02 _ _ (c .before .before .before .before .before .command-of .ensures) (c .before .before .before .before .match .keys1) (rw (c .plain-error .ensures, c .before .flash-good .ensures, c .before .before .begin-of .ensures, c .before .before .before .shape-good .ensures))
+returns c = error-at _ _ _ 0x02 _ _ (c .before .before .before .before .before .command-of .ensures) (c .before .before .before .before .match .keys1) (rw (c .plain-error .ensures, c .before .flash-good .ensures, c .before .before .begin-of .ensures, c .before .before .before .shape-good .ensures) refl)
 
 returns-2 : tie.Need-returns-2
 unfolding checks kind
-returns-2 c = error-at _ _ _ 0x03 _ _ (c .before .before .before .command-of .ensures) (c .before .before .match .keys2) (rw (c .data-error .ensures, c .before .flash-open .ensures))
+returns-2 c = error-at _ _ _ 0x03 _ _ (c .before .before .before .command-of .ensures) (c .before .before .match .keys2) (rw (c .data-error .ensures, c .before .flash-open .ensures) refl)
 
 returns-3 : tie.Need-returns-3
 unfolding checks kind
-returns-3 c = error-at _ _ _ 0x04 _ _ (c .before .before .before .before .before .command-of .ensures) (c .before .before .before .before .match .keys3) (rw (c .end-error .ensures, c .before .flash-end-good .ensures, c .before .before .flash-open2 .ensures, c .before .before .before .shape-good2 .ensures))
+returns-3 c = error-at _ _ _ 0x04 _ _ (c .before .before .before .before .before .command-of .ensures) (c .before .before .before .before .match .keys3) (rw (c .end-error .ensures, c .before .flash-end-good .ensures, c .before .before .flash-open2 .ensures, c .before .before .before .shape-good2 .ensures) refl)
 
 returns-4 : tie.Need-returns-4
 unfolding checks kind
-returns-4 c = error-at _ _ _ 0x05 _ _ (c .before .before .before .before .before .command-of .ensures) (c .before .before .before .before .match .keys4) (rw (c .plain-error2 .ensures, c .before .memory-good .ensures, c .before .before .begin-of2 .ensures, c .before .before .before .shape-good3 .ensures))
+returns-4 c = error-at _ _ _ 0x05 _ _ (c .before .before .before .before .before .command-of .ensures) (c .before .before .before .before .match .keys4) (rw (c .plain-error2 .ensures, c .before .memory-good .ensures, c .before .before .begin-of2 .ensures, c .before .before .before .shape-good3 .ensures) refl)
 
 returns-5 : tie.Need-returns-5
 unfolding checks kind
-returns-5 c = error-at _ _ _ 0x06 _ _ (c .before .before .before .before .before .command-of .ensures) (c .before .before .before .before .match .keys5) (rw (c .end-error2 .ensures, c .before .memory-end-good .ensures, c .before .before .memory-open .ensures, c .before .before .before .shape-good4 .ensures))
+returns-5 c = error-at _ _ _ 0x06 _ _ (c .before .before .before .before .before .command-of .ensures) (c .before .before .before .before .match .keys5) (rw (c .end-error2 .ensures, c .before .memory-end-good .ensures, c .before .before .memory-open .ensures, c .before .before .before .shape-good4 .ensures) refl)
 
 returns-6 : tie.Need-returns-6
 unfolding checks kind
-returns-6 c = error-at _ _ _ 0x07 _ _ (c .before .before .before .command-of .ensures) (c .before .before .match .keys6) (rw (c .data-error2 .ensures, c .before .memory-open2 .ensures))
+returns-6 c = error-at _ _ _ 0x07 _ _ (c .before .before .before .command-of .ensures) (c .before .before .match .keys6) (rw (c .data-error2 .ensures, c .before .memory-open2 .ensures) refl)
 
 returns-7 : tie.Need-returns-7
 unfolding checks kind
-returns-7 c = error-at _ _ _ 0x08 _ _ (c .before .before .before .before .command-of .ensures) (c .before .before .before .match .keys7) (rw (c .plain-error3 .ensures, c .before .sync-good .ensures, c .before .before .shape-good5 .ensures))
+returns-7 c = error-at _ _ _ 0x08 _ _ (c .before .before .before .before .command-of .ensures) (c .before .before .before .match .keys7) (rw (c .plain-error3 .ensures, c .before .sync-good .ensures, c .before .before .shape-good5 .ensures) refl)
 
 returns-8 : tie.Need-returns-8
 unfolding checks kind
-returns-8 c = error-at _ _ _ 0x09 _ _ (c .before .before .before .before .command-of .ensures) (c .before .before .before .match .keys8) (rw (c .plain-error4 .ensures, c .before .write-good .ensures, c .before .before .shape-good6 .ensures))
+returns-8 c = error-at _ _ _ 0x09 _ _ (c .before .before .before .before .command-of .ensures) (c .before .before .before .match .keys8) (rw (c .plain-error4 .ensures, c .before .write-good .ensures, c .before .before .shape-good6 .ensures) refl)
 
 returns-9 : tie.Need-returns-9
 unfolding checks kind
-returns-9 c = error-at _ _ _ 0x0A _ _ (c .before .before .before .before .before .command-of .ensures) (c .before .before .before .before .match .keys9) (rw (c .plain-error5 .ensures, c .before .register-good .ensures, c .before .before .word-at .ensures, c .before .before .before .shape-good7 .ensures))
+returns-9 c = error-at _ _ _ 0x0A _ _ (c .before .before .before .before .before .command-of .ensures) (c .before .before .before .before .match .keys9) (rw (c .plain-error5 .ensures, c .before .register-good .ensures, c .before .before .word-at .ensures, c .before .before .before .shape-good7 .ensures) refl)
 
 returns-10 : tie.Need-returns-10
 unfolding checks kind
-returns-10 c = error-at _ _ _ 0x0D _ _ (c .before .before .before .before .before .command-of .ensures) (c .before .before .before .before .match .keys10) (rw (c .plain-error6 .ensures, c .before .attach-good .ensures, c .before .before .word-at2 .ensures, c .before .before .before .shape-good8 .ensures))
+returns-10 c = error-at _ _ _ 0x0D _ _ (c .before .before .before .before .before .command-of .ensures) (c .before .before .before .before .match .keys10) (rw (c .plain-error6 .ensures, c .before .attach-good .ensures, c .before .before .word-at2 .ensures, c .before .before .before .shape-good8 .ensures) refl)
 
 returns-11 : tie.Need-returns-11
 returns-11 c = error-none _ _ _ _ (c .before .command-of .ensures) (kind-none _ (c .match .rest))

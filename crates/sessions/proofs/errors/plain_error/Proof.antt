@@ -1,3 +1,4 @@
+use mathlib.Core.Path.{refl}
 use Rattle.sessions.specs.Errors.{plainChecks}
 use Rattle.lists.specs.Checks.{first}
 use borrow.Author.Needs.{needs}
@@ -12,7 +13,7 @@ check-requires-2 c κs = search needs
 
 returns : tie.Need-returns
 unfolding plainChecks first
-returns c = rw (c .check2 .ensures, c .before .check .ensures)
+returns c = rw (c .check2 .ensures, c .before .check .ensures) refl
 
 pub plain-error-spec : {M : Type 1} → statement M
 plain-error-spec = tie.close (tie.spec check-requires check-requires-2 returns)

@@ -1,9 +1,8 @@
 -- Loop: the lent buffers keep their lengths.
 use Prim.Native.Nat.{_-_}
-use mathlib.Core.Path.{_≡_, refl}
+use mathlib.Core.Path.{_≡_, _∙_, sym, refl}
 use native.Mathlib.Omega.{arith}
 use lib.ListN.{length}
-use borrow.Author.Needs.{needs}
 use Rattle.vectors.proofs.chip.run.Statement.{statement}
 use Rattle.vectors.proofs.chip.run.Tie as tie
 
@@ -23,13 +22,13 @@ shared-slice-read-feed : tie.Need-shared-slice-read-feed Inv-loop μ-loop
 shared-slice-read-feed c = omega arith
 
 slice-aggregate-feed : tie.Need-slice-aggregate-feed Inv-loop μ-loop
-slice-aggregate-feed c = search needs
+slice-aggregate-feed c = sym (c .before .before .before .loop .inv .1)
 
 slice-aggregate-feed-2 : tie.Need-slice-aggregate-feed-2 Inv-loop μ-loop
-slice-aggregate-feed-2 c = search needs
+slice-aggregate-feed-2 c = sym (c .before .before .before .before .before .loop .inv .2)
 
 slice-aggregate-feed-3 : tie.Need-slice-aggregate-feed-3 Inv-loop μ-loop
-slice-aggregate-feed-3 c = search needs
+slice-aggregate-feed-3 c = sym (c .before .before .before .before .before .before .loop .inv .3)
 
 feed-requires : tie.Need-feed-requires Inv-loop μ-loop
 feed-requires c κs = tt
@@ -44,16 +43,16 @@ loop-less : tie.Need-loop-less Inv-loop μ-loop
 loop-less c = omega arith
 
 loop-again : tie.Need-loop-again Inv-loop μ-loop
-loop-again c = search needs
+loop-again c = let f = c .before .before .before .before .before .before .before in let l = f .before .before .before .before .before .before .before in (f .feed .kept .1 .1 .1 .0 ∙ l .loop .inv .0, f .feed .kept .1 .1 .0 ∙ l .loop .inv .1, f .feed .kept .1 .1 .1 .1 .0 ∙ l .loop .inv .2, f .feed .kept .1 .1 .1 .1 .1 .0 ∙ l .loop .inv .3)
 
 slice-aggregate-copy-at : tie.Need-slice-aggregate-copy-at Inv-loop μ-loop
-slice-aggregate-copy-at c = search needs
+slice-aggregate-copy-at c = sym (c .before .before .before .loop .inv .2)
 
 copy-at-requires : tie.Need-copy-at-requires Inv-loop μ-loop
 copy-at-requires c κs = tt
 
 same-length : tie.Need-same-length Inv-loop μ-loop
-same-length c = search needs
+same-length c = c .before .before .copy-at .kept .0 ∙ c .before .before .before .before .before .before .loop .inv .0
 
 returns : tie.Need-returns Inv-loop μ-loop
 returns c = tt
