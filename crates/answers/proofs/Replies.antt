@@ -6,7 +6,7 @@ use mathlib.Core.Bool.{Bool, true, false}
 use native.Mathlib.Omega.{arith}
 use lib.Dec.{leb}
 use lib.ListN.{length}
-use borrow.Author.Tests.{leb-true, leb-false, le-leb, lt-leb}
+use borrow.Author.Tests.{leb-true, leb-false, le-leb}
 use Rattle.lists.specs.Lay.{lay}
 use Rattle.lists.proofs.Fits.{lay-fits, lay-unfit}
 use Rattle.framing.specs.Frame.{framed, framing, Frames, refused, wrote, frameReport}

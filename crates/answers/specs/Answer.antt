@@ -1,4 +1,4 @@
--- "Answer: direction 1, same command, size 2, value, status 0 or 1, error. The error is 0 on success."
+-- "Answer: direction 1, same command, size 2, value (4 bytes, zero but for a good READ_REG), status 0 or 1, error. The error is 0 on success."
 use mathlib.Core.List.{List, [], _∷_, _++_}
 use mathlib.Core.Bool.{cond}
 use Prim.Native.Nat.{ℕ, _/_, _%_}

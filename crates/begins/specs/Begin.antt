@@ -8,7 +8,7 @@ use Rattle.fields.specs.Places.{FIRST-WORD, SECOND-WORD, THIRD-WORD, FOURTH-WOR
 use Rattle.begins.specs.declared.Begin.{Begin}
 use Rattle.begins.specs.declared.Lengths.{Lengths}
 
--- "FLASH_BEGIN: size S, count n, block size b, offset": four words
+-- "size S, count n, block size b, offset": four words
 unfoldable pub beginOf : List ℕ → Begin
 beginOf p = record { size = word p FIRST-WORD; count = word p SECOND-WORD; block = word p THIRD-WORD; offset = word p FOURTH-WORD }
 

@@ -43,12 +43,17 @@ packed-next ws p at i v h e =
 module _
     (g : Begin) (k old new at : ℕ) (p words : List ℕ) (eo : old ≡ reached g k) (en : new ≡ reached g (k + 1))
     (ea : at ≡ place (g .offset + old)) where
-  pub no-places : length words < at + (new - old) / 4 → words ≡ wordsWritten g k p words
+  pub too-short : length p < 24 + (new - old) → words ≡ wordsWritten g k p words
   unfolding wordsWritten wordsFit
-  no-places h = rw (← en, ← eo, ← ea, lt-leb _ _ h)
+  too-short h = rw (← en, ← eo, ← ea, lt-leb _ _ h)
 
-  pub words-written :
-      (after : List ℕ) → at + (new - old) / 4 ≤ length words → after ≡ lay words at (wordsOf (payload p) ((new - old) / 4))
-      → after ≡ wordsWritten g k p words
-  unfolding wordsWritten wordsFit wordsBlock
-  words-written after h e = rw (← en, ← eo, ← ea, le-leb _ _ h) e
+  module _ (long : 24 + (new - old) ≤ length p) where
+    pub no-places : length words < at + (new - old) / 4 → words ≡ wordsWritten g k p words
+    unfolding wordsWritten wordsFit
+    no-places h = rw (← en, ← eo, ← ea, le-leb _ _ long, lt-leb _ _ h)
+
+    pub words-written :
+        (after : List ℕ) → at + (new - old) / 4 ≤ length words → after ≡ lay words at (wordsOf (payload p) ((new - old) / 4))
+        → after ≡ wordsWritten g k p words
+    unfolding wordsWritten wordsFit wordsBlock
+    words-written after h e = rw (← en, ← eo, ← ea, le-leb _ _ long, le-leb _ _ h) e

@@ -22,6 +22,6 @@ flashFits g k p flash =
     leb (DATA-AT + (reached g (k + 1) - reached g k)) (length p)
     && leb (g .offset + roundUp (reached g (k + 1))) (length flash)
 
--- the data of a packet written; nothing is written where they do not fit, which no session that refusal 5 lets pass has
+-- the data of a packet written; nothing is written where they do not fit. A block past every check, in a session that refusal 5 lets pass, fits.
 unfoldable pub flashWritten : Begin → ℕ → List ℕ → List ℕ → List ℕ
 flashWritten g k p flash = cond (flashFits g k p flash) (flashBlock g k (payload p) flash) flash

@@ -39,17 +39,21 @@ fn pack_at(words: &mut [u32], at: usize, packet: &[u8], n: usize)
     }
 }
 
-// Block k of a memory session, four bytes to a word. Nothing is written where the words are too few for it.
+// Block k of a memory session, four bytes to a word. Nothing is written where the packet is too short for it or the words are too
+// few.
 pub fn write_words(begin: Begin, k: u32, packet: &[u8], words: &mut [u32])
     ensures { λ r. ⌜ now (words .exit) ≡ wordsWritten begin k (now (packet .entry)) (now (words .entry)) ⌝ }
 {
     let old = begins::reach(begin, k);
     let new = begins::reach_after(begin, k);
     let at = commands::place_of(begin.offset as u64 + old as u64);
-    let n = ((new - old) / 4) as usize;
-    if n <= words.len() {
-        if at <= words.len() - n {
-            pack_at(words, at, packet, n);
+    let size = (new - old) as usize;
+    let n = size / 4;
+    if DATA_AT + size <= packet.len() {
+        if n <= words.len() {
+            if at <= words.len() - n {
+                pack_at(words, at, packet, n);
+            }
         }
     }
 }

@@ -16,18 +16,18 @@ coreAt m = coreOf (m .loader) (m .flash) (m .words)
 
 -- how many bytes of the packet at a place were stored
 unfoldable pub storedAt : List ℕ → ℕ → ℕ
-storedAt line i = stored (getD (stretches line) i [])
+storedAt bytes i = stored (getD (stretches bytes) i [])
 
 -- the call that closes a packet of which so many bytes were stored, as it was handled
 abbrev pub closingAs : ℕ → Handled → ClosingCall
 closingAs n h = record { told = toldOf n (h .reply); flash = h .core .flash }
 
--- the calls hs that close a packet are, one for one, the packets of the line handled one after the other, from the core c on
-pub record TellsHistory (c : Core) (line : List ℕ) (hs : List ClosingCall) : Type 0 where
-  pub one-for-one : length hs ≡ length (packets line)
+-- the calls hs that close a packet are, one for one, the packets of the line's bytes handled one after the other, from the core c on
+pub record TellsHistory (c : Core) (bytes : List ℕ) (hs : List ClosingCall) : Type 0 where
+  pub one-for-one : length hs ≡ length (packets bytes)
   pub each :
-      (i : ℕ) → i < length (packets line)
-      → closingAt hs i ≡ closingAs (storedAt line i) (handledAt (history c (packets line)) i)
+      (i : ℕ) → i < length (packets bytes)
+      → closingAt hs i ≡ closingAs (storedAt bytes i) (handledAt (history c (packets bytes)) i)
 
 -- From a fresh record on, with any packet buffer, flash and words: every list of calls, refused ones included, tells the history of its line's packets.
 abbrev pub CallsAreHistory : Type 0

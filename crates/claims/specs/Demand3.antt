@@ -38,6 +38,6 @@ pub record Holds (buffer flash words : List ℕ) (cs : List Call) : Type 0 where
       Grammatical (lengths (start buffer flash words)) (packets (lineBytes (start buffer flash words) cs))
       (closingCalls (start buffer flash words) cs)
 
--- "Start with a fresh record and any flash, memory and packet room, of any length. Take any list of byte calls, refused ones included."
+-- "Start with a fresh record and any flash, memory and packet room, of any length. Take any list of byte calls, refused ones included"
 abbrev pub Demand3 : Type 0
 Demand3 = (buffer flash words : List ℕ) (cs : List Call) → Holds buffer flash words cs

@@ -18,7 +18,6 @@ pub use begins::begin_of;
 pub use begins::flash_good;
 pub use begins::memory_good;
 pub use begins::reach;
-pub use begins::reach_after;
 pub use begins::round_up;
 
 // ---- the commands by number

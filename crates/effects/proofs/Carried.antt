@@ -2,11 +2,8 @@
 use Prim.Native.Nat.{ℕ}
 use mathlib.Core.Path.{_≡_, sym, _∙_}
 use mathlib.Core.List.{List}
-use mathlib.Core.Bool.{Bool, true, false, cond}
-use borrow.Author.Tests.{ne-eqb}
-use lib.Dec.{eqb}
 use Rattle.commands.specs.Header.{command}
-use Rattle.sessions.specs.Errors.{Kind, kind, sync, unknown}
+use Rattle.sessions.specs.Errors.{Kind, kind, unknown}
 use Rattle.sessions.specs.declared.Session.{Session}
 use Rattle.effects.specs.Core.{Core}
 use Rattle.effects.specs.Effects.{effect}

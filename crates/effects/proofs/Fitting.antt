@@ -1,8 +1,8 @@
 -- A block that is past every check fits: it is written as document 01 says.
-use Prim.Native.Nat.{ℕ, _+_, _-_, _*_, _/_, _≤_, _<_}
+use Prim.Native.Nat.{ℕ, _+_, _-_, _*_, _/_, _≤_}
 use mathlib.Core.Path.{_≡_, refl}
 use mathlib.Core.List.{List}
-use mathlib.Core.Bool.{Bool, true}
+use mathlib.Core.Bool.{true}
 use native.Mathlib.Omega.{arith}
 use borrow.Author.Tests.{le-leb}
 use lib.ListN.{length}
@@ -11,7 +11,7 @@ use Rattle.begins.specs.declared.Begin.{Begin}
 use Rattle.begins.specs.declared.Lengths.{Lengths}
 use Rattle.begins.proofs.Rules.{Ruled, Inside}
 use Rattle.begins.proofs.Sectors.{reaches, round-mono}
-use Rattle.commands.specs.Block.{payload}
+use Rattle.commands.specs.Block.{DATA-AT, payload}
 use Rattle.commands.specs.Parameters.{place}
 use Rattle.commands.proofs.Rules.{data-length}
 use Rattle.sessions.specs.Session.{flashOpen, memoryOpen, announced, accepted, sessionGood}
@@ -21,15 +21,18 @@ use Rattle.blocks.specs.Flash.{flashBlock, flashFits, flashWritten}
 use Rattle.blocks.specs.Memory.{wordsBlock, wordsFit, wordsWritten}
 use Rattle.effects.proofs.Passing.{flash-ruled, memory-ruled}
 
-flash-fits : (l : Lengths) (g : Begin) (k : ℕ) (p flash : List ℕ) → Ruled l g → l .flash ≡ length flash → length p ≡ 24 + g .block
+-- a packet with a whole block has what is written of it
+data-fits : (g : Begin) (k : ℕ) (p : List ℕ) → length p ≡ DATA-AT + g .block → DATA-AT + (reached g (k + 1) - reached g k) ≤ length p
+data-fits g k p long = let r = reaches g k in omega arith
+
+flash-fits : (l : Lengths) (g : Begin) (k : ℕ) (p flash : List ℕ) → Ruled l g → l .flash ≡ length flash → length p ≡ DATA-AT + g .block
     → flashWritten g k p flash ≡ flashBlock g k (payload p) flash
 unfolding flashWritten flashFits
 flash-fits l g k p flash u e long =
     let r = reaches g k in
     let w = round-mono (reached g (k + 1)) (g .size) (r .most) in
-    let a : 24 + (reached g (k + 1) - reached g k) ≤ length p = omega arith in
     let b : g .offset + roundUp (reached g (k + 1)) ≤ length flash = omega arith in
-    rw (le-leb _ _ a, le-leb _ _ b)
+    rw (le-leb _ _ (data-fits g k p long), le-leb _ _ b)
 
 in-places : (o w v s n : ℕ) → memoryStart ≤ o → w ≤ v → v ≤ s → o + s ≤ memoryStart + 4 * n
     → (o + w - memoryStart) / 4 + (v - w) / 4 ≤ n
@@ -42,10 +45,10 @@ block-places l g k u =
     let r = reaches g k in
     in-places (g .offset) _ _ (g .size) (l .words) (u .start) (r .up) (r .most) (u .within)
 
-words-fit : (l : Lengths) (g : Begin) (k : ℕ) (p words : List ℕ) → Inside l g → l .words ≡ length words
+words-fit : (l : Lengths) (g : Begin) (k : ℕ) (p words : List ℕ) → Inside l g → l .words ≡ length words → length p ≡ DATA-AT + g .block
     → wordsWritten g k p words ≡ wordsBlock g k (payload p) words
 unfolding wordsWritten wordsFit
-words-fit l g k p words u e = rw (le-leb _ _ (rw e at (block-places l g k u)))
+words-fit l g k p words u e long = rw (le-leb _ _ (data-fits g k p long), le-leb _ _ (rw e at (block-places l g k u)))
 
 module _ (flash words p : List ℕ) (s : Session) where
   abbrev l : Lengths
@@ -60,4 +63,6 @@ module _ (flash words p : List ℕ) (s : Session) where
 
     pub words-written : DataPassed (memoryOpen s) s p
         → wordsWritten (announced s) (accepted s) p words ≡ wordsBlock (announced s) (accepted s) (payload p) words
-    words-written d = words-fit l (announced s) (accepted s) p words (memory-ruled l s good (d .is-open)) refl
+    words-written d =
+        words-fit l (announced s) (accepted s) p words (memory-ruled l s good (d .is-open)) refl
+        (data-length p _ (d .is-shaped) (d .sized-block))

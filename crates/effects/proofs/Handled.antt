@@ -8,12 +8,12 @@ use lib.Dec.{eqb}
 use Rattle.lists.proofs.Tests.{Passed, passed-first, first-passed}
 use Rattle.framing.specs.Packets.{read}
 use Rattle.commands.specs.Header.{command}
-use Rattle.sessions.specs.Session as sessions
+use Rattle.sessions.specs.Session.{sessionGood, ifSound}
 use Rattle.sessions.specs.Errors.{kind, checks, errorOf}
 use Rattle.sessions.specs.declared.Session.{Session}
 use Rattle.sessions.proofs.Checks.{all-numbered}
-use Rattle.effects.specs.Core.{Core, lengths, withSession, ifSound}
-use Rattle.effects.specs.Handle.{Handled, carriedOut, failed, handle, Does}
+use Rattle.effects.specs.Core.{Core, lengths, withSession}
+use Rattle.effects.specs.Handle.{Handled, carriedOut, failed, handle, obeyed, Does}
 use Rattle.effects.specs.declared.Note.the-variants.{Nothing}
 use Rattle.effects.specs.declared.Done.{Done}
 
@@ -39,15 +39,20 @@ module _ (c : Core) (p : List ℕ) where
 
 -- a read packet's command, in what the code has: the session as it finds it, and its error
 module _
-    (c : Core) (p : List ℕ) (s : Session) (error : ℕ) (found : s ≡ sessions.ifSound (lengths c) (c .session))
+    (c : Core) (p : List ℕ) (s : Session) (error : ℕ) (found : s ≡ ifSound (lengths c) (c .session))
     (judged : error ≡ errorOf (lengths c) s p) where
-  pub obeyed-failed : (error ≡ 0 → ⊥) → (r : Done) → r ≡ record { error = error; session = s; attach = c .attach; value = 0; note = Nothing }
-      → Does (handle (ifSound c) (read p)) (command p) r (c .flash) (c .words)
-  unfolding handle failed
+  pub obeyed-failed : (error ≡ 0 → ⊥) → (r : Done) → r ≡ record { error = error; session = c .session; attach = c .attach; value = 0; note = Nothing }
+      → Does (obeyed c p) (command p) r (c .flash) (c .words)
+  unfolding obeyed failed
   obeyed-failed bad r e =
       rw (← found, ← judged, ne-eqb error 0 bad, e) (record { reply = refl; session = refl; attach = refl; in-flash = refl; in-words = refl })
 
   pub obeyed-done : error ≡ 0 → (r : Done) (f w : List ℕ) → Does (carriedOut (withSession c s) p) (command p) r f w
-      → Does (handle (ifSound c) (read p)) (command p) r f w
-  unfolding handle
+      → Does (obeyed c p) (command p) r f w
+  unfolding obeyed
   obeyed-done good r f w d = rw (← found, ← judged, eq-eqb error 0 good) d
+
+-- with a session that refusal 5 lets pass, a command is obeyed as its packet is handled
+pub obeyed-handled : (c : Core) (p : List ℕ) → sessionGood (lengths c) (c .session) ≡ true → obeyed c p ≡ handle c (read p)
+unfolding obeyed handle ifSound
+obeyed-handled c p h = rw h

@@ -1,6 +1,6 @@
 -- What a command whose error is 0 has passed: the rule of its session, and the place of its register.
 use Prim.Native.Nat.{ℕ, _<_}
-use mathlib.Core.Path.{_≡_, refl, sym, _∙_}
+use mathlib.Core.Path.{_≡_, sym, _∙_}
 use mathlib.Core.List.{List}
 use mathlib.Core.Bool.{true}
 use Rattle.lists.proofs.Tests.{absurd-test, both, Passed, first-passed}

@@ -1,9 +1,9 @@
--- What closed packets act on: "neither session, flash, words nor attach word".
+-- What closed packets act on: session, attach word, flash and words.
 use mathlib.Core.List.{List}
 use Prim.Native.Nat.{ℕ}
 use lib.ListN.{length}
 use Rattle.begins.specs.declared.Lengths.{Lengths}
-use Rattle.sessions.specs.Session as sessions
+use Rattle.sessions.specs.Session.{ifSound}
 use Rattle.sessions.specs.declared.Session.{Session}
 
 pub record Core : Type 0 where
@@ -29,6 +29,6 @@ withFlash c f = record { session = c .session; attach = c .attach; flash = f; wo
 abbrev pub withWords : Core → List ℕ → Core
 withWords c ws = record { session = c .session; attach = c .attach; flash = c .flash; words = ws }
 
--- a session that refusal 5 would strike counts as none; a call that is let pass has no such session
-abbrev pub ifSound : Core → Core
-ifSound c = withSession c (sessions.ifSound (lengths c) (c .session))
+-- with no session where refusal 5 would strike the one that is open; a call that is let pass has no such session
+abbrev pub soundOnly : Core → Core
+soundOnly c = withSession c (ifSound (lengths c) (c .session))

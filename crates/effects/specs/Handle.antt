@@ -1,4 +1,4 @@
--- What a closed packet does: "only a read one is answered"; "a failed command changes neither session, flash, words nor attach word".
+-- What a closed packet does: "only a read one is answered"; "A failed command changes neither session, flash, words nor attach word."
 use mathlib.Core.Path.{_≡_}
 use mathlib.Core.List.{List}
 use mathlib.Core.Bool.{cond}
@@ -7,7 +7,7 @@ use lib.Dec.{eqb}
 use Rattle.framing.specs.Packets.{Packet, dropped, read}
 use Rattle.commands.specs.Header.{command}
 use Rattle.sessions.specs.Errors.{kind, errorOf}
-use Rattle.effects.specs.Core.{Core, lengths}
+use Rattle.effects.specs.Core.{Core, lengths, soundOnly}
 use Rattle.effects.specs.Effects.{effect}
 use Rattle.effects.specs.declared.Done.{Done}
 use Rattle.effects.specs.declared.Note.{Note}
@@ -40,6 +40,13 @@ handle c (read p) =
     cond (eqb (errorOf (lengths c) (c .session) p) 0)
     (carriedOut c p)
     (failed c p (errorOf (lengths c) (c .session) p))
+
+-- a read packet's command, obeyed: judged and carried out with no session where refusal 5 would strike it; where it fails, all stays as it came
+unfoldable pub obeyed : Core → List ℕ → Handled
+obeyed c p =
+    cond (eqb (errorOf (lengths c) (soundOnly c .session) p) 0)
+    (carriedOut (soundOnly c) p)
+    (failed c p (errorOf (lengths c) (soundOnly c .session) p))
 
 -- the command's answer and all that it leaves are those of h
 pub record Does (h : Handled) (number : ℕ) (r : Done) (flash words : List ℕ) : Type 0 where

@@ -22,15 +22,14 @@ ghost use mathlib.Core.Path.{_≡_};
 ghost use mathlib.Core.Bool.{true};
 ghost use Prim.Native.Nat.{_+_, _^_, _<_};
 ghost use lib.ListN.{length, getD, set};
+ghost use Rattle.fields.specs.Places.{FIRST-WORD, SECOND-WORD, THIRD-WORD};
 ghost use Rattle.fields.specs.Words.{word};
 ghost use Rattle.fields.specs.Merge.{merged};
-ghost use Rattle.framing.specs.Packets.{read};
 ghost use Rattle.commands.specs.Header.{command};
 ghost use Rattle.commands.specs.Parameters.{place};
 ghost use Rattle.sessions.specs.Session.{accepted, advanced, sessionGood};
 ghost use Rattle.sessions.specs.Errors.{errorOf};
-ghost use Rattle.effects.specs.Core.{ifSound};
-ghost use Rattle.effects.specs.Handle.{carriedOut, handle, Does};
+ghost use Rattle.effects.specs.Handle.{carriedOut, obeyed, Does};
 
 // What END asks of the caller: reboot, stay in the loader, or jump to an entry.
 pub enum Note {
@@ -64,7 +63,7 @@ fn leaving(error: u8, session: Session, attach: u32) -> Done
 }
 
 // A session that END closes, with what it tells.
-fn closing(attach: u32, note: Note) -> Done
+fn ending(attach: u32, note: Note) -> Done
     ensures { λ r. ⌜ r ≡ record { error = 0; session = Session.Closed; attach = attach; value = 0; note = note } ⌝ }
 {
     Done {
@@ -88,11 +87,12 @@ fn advanced_by(session: Session) -> Session
     }
 }
 
+// WRITE_REG: the merged word in its place.
 fn write_register(packet: &[u8], words: &mut [u32])
-    requires { ⌜ place (word (now packet) 8) < length (now words) ⌝ }
-    ensures { λ r. ⌜ now (words .exit) ≡ set (now (words .entry)) (place (word (now (packet .entry)) 8))
-        (merged (getD (now (words .entry)) (place (word (now (packet .entry)) 8)) 0)
-        (word (now (packet .entry)) 12) (word (now (packet .entry)) 16)) ⌝ }
+    requires { ⌜ place (word (now packet) FIRST-WORD) < length (now words) ⌝ }
+    ensures { λ r. ⌜ now (words .exit) ≡ set (now (words .entry)) (place (word (now (packet .entry)) FIRST-WORD))
+        (merged (getD (now (words .entry)) (place (word (now (packet .entry)) FIRST-WORD)) 0)
+        (word (now (packet .entry)) SECOND-WORD) (word (now (packet .entry)) THIRD-WORD)) ⌝ }
 {
     let at = commands::place_of(fields::word_at(packet, FIRST_WORD) as u64);
     let old = words[at];
@@ -103,9 +103,10 @@ fn write_register(packet: &[u8], words: &mut [u32])
     );
 }
 
+// READ_REG: the word in its place.
 fn read_register(packet: &[u8], words: &[u32]) -> u32
-    requires { ⌜ place (word (now packet) 8) < length (now words) ⌝ }
-    ensures { λ r. ⌜ r ≡ getD (now (words .entry)) (place (word (now (packet .entry)) 8)) 0 ⌝ }
+    requires { ⌜ place (word (now packet) FIRST-WORD) < length (now words) ⌝ }
+    ensures { λ r. ⌜ r ≡ getD (now (words .entry)) (place (word (now (packet .entry)) FIRST-WORD)) 0 ⌝ }
 {
     let at = commands::place_of(fields::word_at(packet, FIRST_WORD) as u64);
     words[at]
@@ -138,9 +139,9 @@ fn carry_out(
             );
             leaving(0, advanced_by(session), attach)
         }
-        FLASH_END => closing(attach, flash_note(packet)),
+        FLASH_END => ending(attach, flash_note(packet)),
         MEM_BEGIN => leaving(0, Session::Memory(begins::begin_of(packet), 0), attach),
-        MEM_END => closing(attach, memory_note(packet)),
+        MEM_END => ending(attach, memory_note(packet)),
         MEM_DATA => {
             blocks::write_words(
                 sessions::announced_by(session),
@@ -168,7 +169,8 @@ fn carry_out(
     }
 }
 
-// A read packet's command, carried out where its error is 0. A session that refusal 5 would strike counts as none.
+// A read packet's command, carried out where its error is 0; where it fails, session and attach word come back as they were. A
+// session that refusal 5 would strike counts as none.
 pub fn obey(
     packet: &[u8],
     session: Session,
@@ -177,9 +179,8 @@ pub fn obey(
     words: &mut [u32],
 ) -> Done
     ensures { λ r. ⌜ Does
-        (handle (ifSound (record
-        { session = session; attach = attach; flash = now (flash .entry); words = now (words .entry) }))
-        (read (now (packet .entry))))
+        (obeyed (record { session = session; attach = attach; flash = now (flash .entry); words = now (words .entry) })
+        (now (packet .entry)))
         (command (now (packet .entry))) r (now (flash .exit)) (now (words .exit)) ⌝ }
 {
     let lengths = Lengths {
@@ -189,7 +190,7 @@ pub fn obey(
     let open = sessions::if_sound(lengths, session);
     let error = sessions::error_of(lengths, open, packet);
     if error != 0 {
-        return leaving(error, open, attach);
+        return leaving(error, session, attach);
     }
     carry_out(packet, open, attach, flash, words)
 }

@@ -1,4 +1,4 @@
--- "Checksum: 0xEF XORed with each byte of the data." The link XORs from 0.
+-- "Checksum: 0xEF XORed with each byte of the data after the 16 bytes." The link XORs from 0.
 use mathlib.Core.List.{List, [], _∷_}
 use Prim.Native.Nat.{ℕ}
 use lib.Bits.{bitXor}

@@ -9,7 +9,7 @@ use Rattle.fields.specs.Words.{word}
 use Rattle.framing.specs.Packets.{Packet, dropped, read}
 use Rattle.fields.specs.Places.{FIRST-WORD, SECOND-WORD}
 use Rattle.commands.specs.Numbers.{FLASH-BEGIN, FLASH-DATA, FLASH-END, MEM-BEGIN}
-use Rattle.commands.specs.Header.{command, shaped, dataShaped}
+use Rattle.commands.specs.Header.{FOUR-WORDS, command, shaped, dataShaped}
 use Rattle.begins.specs.Begin.{beginOf, flashRule, memoryRule}
 use Rattle.commands.specs.Block.{payload, zeroWords, sumGood, paddingGood}
 use Rattle.commands.specs.Parameters.{flashEndRule}
@@ -19,11 +19,11 @@ use Rattle.begins.specs.declared.Lengths.{Lengths}
 -- "A BEGIN is good when it is read and neither 0xC0 nor 0xC5 applies."
 unfoldable pub flashBegin : Lengths → Packet → Bool
 flashBegin l dropped = false
-flashBegin l (read p) = eqb (command p) FLASH-BEGIN && (shaped 16 p && flashRule l (beginOf p))
+flashBegin l (read p) = eqb (command p) FLASH-BEGIN && (shaped FOUR-WORDS p && flashRule l (beginOf p))
 
 unfoldable pub memoryBegin : Lengths → Packet → Bool
 memoryBegin l dropped = false
-memoryBegin l (read p) = eqb (command p) MEM-BEGIN && (shaped 16 p && memoryRule l (beginOf p))
+memoryBegin l (read p) = eqb (command p) MEM-BEGIN && (shaped FOUR-WORDS p && memoryRule l (beginOf p))
 
 unfoldable pub anyBegin : Lengths → Packet → Bool
 anyBegin l p = flashBegin l p || memoryBegin l p
@@ -55,7 +55,7 @@ carries (read p) = payload p
 unfoldable pub packet : List Packet → ℕ → Packet
 packet ps i = getD ps i dropped
 
--- "A choice names, by their places among the packets, a good flash BEGIN, its good blocks 0 to n less 1, and END."
+-- "A choice names, by their places among the packets, a good flash BEGIN, its good blocks 0 to n less 1, and END, in this order"
 pub record Choice : Type 0 where
   pub begin : ℕ
   pub blocks : List ℕ
@@ -83,7 +83,7 @@ pub data Chain (l : Lengths) (g : Begin) (ps : List Packet) : ℕ → ℕ → Li
       {k from e : ℕ} → k ≡ g .count → Between (fillerEnd l) ps from e → flashEnd (packet ps e) ≡ true
       → Chain l g ps k from [] e
 
--- "in this order; it fits when END is the last packet and only filler lies between them"; "Anything may precede the BEGIN."
+-- "it fits when END is the last packet and only filler lies between them"; "Anything may precede the BEGIN."
 pub record Fits (l : Lengths) (ps : List Packet) (c : Choice) : Type 0 where
   pub good : flashBegin l (packet ps (c .begin)) ≡ true
   pub chain : Chain l (begins (packet ps (c .begin))) ps 0 (c .begin) (c .blocks) (c .last)

@@ -10,7 +10,7 @@ use Rattle.link_state.specs.Sound.{sound}
 use Rattle.link.specs.Step.{byteStep}
 use Rattle.link_state.specs.declared.Link.{Link}
 
--- a byte that comes, with buffer enough for an answer
+-- a byte that comes, with a buffer long enough for an answer
 pub record Coming : Type 0 where
   pub byte : ℕ
   pub tick : ℕ

@@ -26,7 +26,7 @@ pub const MOST_CONTENTS: usize = MOST_DATA + 1;
 
 pub const MOST_HELD: usize = MOST_CONTENTS + 1;
 
-pub const LONGEST: usize = MOST_HELD + 1;
+pub const LONGEST_FRAME: usize = MOST_HELD + 1;
 
 // The contents of a frame, zeros behind what is held of them; and the data of a data frame, zeros behind it.
 pub type Holder = [u8; MOST_CONTENTS];

@@ -12,7 +12,7 @@ ghost use Rattle.link_state.specs.Refusals.{shortestBuffer, checks, send
 fn judge_buffer(buffer: usize) -> u8
     ensures { λ r. ⌜ r ≡ cond (leb shortestBuffer buffer) 0 8 ⌝ }
 {
-    lists::check(link_frames::LONGEST <= buffer, 8, 0)
+    lists::check(link_frames::LONGEST_FRAME <= buffer, 8, 0)
 }
 
 // The refusals of pull, byte and poll; 0 where there is none.

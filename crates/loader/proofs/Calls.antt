@@ -18,14 +18,14 @@ use Rattle.framing.specs.declared.Stepped.{Stepped}
 use Rattle.framing.specs.declared.Closing.the-variants.{Open, Whole, Broken}
 use Rattle.framing.proofs.Steps.{step-held}
 use Rattle.commands.specs.Header.{command}
-use Rattle.sessions.specs.Session as sessions
 use Rattle.sessions.specs.Session.{sessionGood}
 use Rattle.loader.specs.Refusals.{BufferLengths, lengthsOf, bufferChecks, recordGood, refusal}
 use Rattle.answers.specs.Answer.{answerBytes}
 use Rattle.answers.specs.Reply.{longestAnswer, Replies}
 use Rattle.answers.proofs.Replies.{sent-whole, laid-whole}
-use Rattle.effects.specs.Core.{Core, lengths, ifSound}
-use Rattle.effects.specs.Handle.{handle, Does}
+use Rattle.effects.specs.Core.{lengths}
+use Rattle.effects.specs.Handle.{handle, obeyed, Does}
+use Rattle.effects.proofs.Handled.{obeyed-handled}
 use Rattle.loader.specs.Step.{Feeds, step, refusing, afterByte, afterPacket, coreOf, bufferLengths, answerBuffer, toldOf}
 use Rattle.loader.specs.Parts.{classified, Acts}
 use Rattle.loader.specs.declared.Loader.{Loader}
@@ -47,11 +47,6 @@ unheaded : (p : List ℕ) (t : Bool) → classified (cond t (read p) dropped) �
 unheaded p true e = let z : _≡_ {A = ℕ} 0 1 = cc in absurd (omega arith)
 unheaded p false e = refl
 
--- a core whose session refusal 5 lets pass
-sound-core : (c : Core) → sessionGood (lengths c) (c .session) ≡ true → ifSound c ≡ c
-unfolding sessions.ifSound
-sound-core c h = rw h
-
 module _
     (loader : Loader) (p buffer flash words : List ℕ) (x : code-packet.Packet) (is : x ≡ classified (header (some p))) where
   pub acts-dropped :
@@ -70,7 +65,7 @@ module _
   pub acts-read :
       (n sent : ℕ) (done : Done) (after flash′ words′ : List ℕ) → x ≡ code.Read n → longestAnswer ≤ length buffer
       → sessionGood (lengths (coreOf loader flash words)) (loader .session) ≡ true
-      → Does (handle (ifSound (coreOf loader flash words)) (read p)) (command p) done flash′ words′
+      → Does (obeyed (coreOf loader flash words) p) (command p) done flash′ words′
       → Replies (answerBytes n (done .error) (done .value)) buffer sent after
       → Acts (handle (coreOf loader flash words) (header (some p))) loader (length p) buffer
       (record {
@@ -80,7 +75,7 @@ module _
   unfolding toldOf answerBuffer
   acts-read n sent done after flash′ words′ e fits sound does r =
       let h = packet-read n e in
-      let d : Does (handle (coreOf loader flash words) (read p)) (command p) done flash′ words′ = rw (sound-core (coreOf loader flash words) sound) at does in
+      let d : Does (handle (coreOf loader flash words) (read p)) (command p) done flash′ words′ = rw (obeyed-handled (coreOf loader flash words) p sound) at does in
       rw (h .0)
       (record {
         says = rw (d .reply, sent-whole n (done .error) (done .value) sent buffer after fits r, h .1);

@@ -9,7 +9,7 @@ ghost use Rattle.loader.specs.Parts.{classified};
 pub fn read_packet(packet: &[u8]) -> Packet
     ensures { λ r. ⌜ r ≡ classified (header (some (now (packet .entry)))) ⌝ }
 {
-    if packet.len() < 8 {
+    if packet.len() < fields::HEADER {
         return Packet::Dropped;
     }
     if packet[0] != 0 {

@@ -4,6 +4,7 @@ mod refusals;
 
 pub use answers::LONGEST_ANSWER;
 pub use answers::status_of;
+pub use effects::Done;
 pub use effects::Note;
 use framing::Closing;
 use framing::Line;
@@ -61,6 +62,7 @@ pub enum Packet {
     Read(u8),
 }
 
+// The record that a start begins with.
 pub fn new() -> Loader
     ensures { λ r. ⌜ r ≡ freshLoader ⌝ }
 {

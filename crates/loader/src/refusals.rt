@@ -8,18 +8,21 @@ use sessions::session_good;
 ghost use mathlib.Core.Path.{_≡_};
 ghost use Rattle.loader.specs.Refusals.{flashLength, wordCount, recordGood, refusal};
 
+// Refusal 3: flash is a multiple of a sector, up to 4 MiB.
 fn flash_length_good(n: usize) -> bool
     ensures { λ r. ⌜ r ≡ flashLength n ⌝ }
 {
     (1 <= n) & ((n % 4096 == 0) & (n <= 4194304))
 }
 
+// Refusal 4: 1 to 16,384 words.
 fn word_count_good(n: usize) -> bool
     ensures { λ r. ⌜ r ≡ wordCount n ⌝ }
 {
     (1 <= n) & (n <= 16384)
 }
 
+// Refusal 5: the bytes held, the session for these lengths, and the attach word.
 fn record_good(lengths: Lengths, loader: Loader) -> bool
     ensures { λ r. ⌜ r ≡ recordGood lengths loader ⌝ }
 {

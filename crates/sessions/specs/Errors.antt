@@ -8,7 +8,7 @@ use Rattle.fields.specs.Places.{FIRST-WORD, SECOND-WORD}
 use Rattle.fields.specs.Words.{word}
 use Rattle.fields.specs.Pins.{attachGood}
 use Rattle.commands.specs.Numbers.{FLASH-BEGIN, FLASH-DATA, FLASH-END, MEM-BEGIN, MEM-END, MEM-DATA, SYNC, WRITE-REG, READ-REG, SPI-ATTACH}
-use Rattle.commands.specs.Header.{command, shaped, dataShaped}
+use Rattle.commands.specs.Header.{FOUR-WORDS, command, shaped, dataShaped}
 use Rattle.begins.specs.Begin.{beginOf, flashRule, memoryRule}
 use Rattle.commands.specs.Block.{zeroWords, sumGood, paddingGood}
 use Rattle.commands.specs.Parameters.{flashEndRule, memoryEndRule, syncRule, registerRule, writeRule}
@@ -60,14 +60,14 @@ unfoldable pub plainChecks : Bool → Bool → List Check
 plainChecks isShaped isRuled = isShaped orElse wrongSize ∷ isRuled orElse badParameter ∷ []
 
 unfoldable pub checks : Lengths → Session → Kind → List ℕ → List Check
-checks l s flash-begin p = plainChecks (shaped 16 p) (flashRule l (beginOf p))
+checks l s flash-begin p = plainChecks (shaped FOUR-WORDS p) (flashRule l (beginOf p))
 checks l s flash-data p = dataChecks (flashOpen s) s p
 checks l s flash-end p = endChecks (shaped 4 p) (flashOpen s) (flashEndRule p) s
-checks l s memory-begin p = plainChecks (shaped 16 p) (memoryRule l (beginOf p))
+checks l s memory-begin p = plainChecks (shaped FOUR-WORDS p) (memoryRule l (beginOf p))
 checks l s memory-end p = endChecks (shaped 8 p) (memoryOpen s) (memoryEndRule l p) s
 checks l s memory-data p = dataChecks (memoryOpen s) s p
 checks l s sync p = plainChecks (shaped 36 p) (syncRule p)
-checks l s write-reg p = plainChecks (shaped 16 p) (writeRule l p)
+checks l s write-reg p = plainChecks (shaped FOUR-WORDS p) (writeRule l p)
 checks l s read-reg p = plainChecks (shaped 4 p) (registerRule l (word p FIRST-WORD))
 checks l s spi-attach p = plainChecks (shaped 4 p) (attachGood (word p FIRST-WORD))
 checks l s unknown p = false orElse unknownCommand ∷ []

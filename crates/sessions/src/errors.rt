@@ -8,6 +8,7 @@ use begins::Lengths;
 use commands::FLASH_BEGIN;
 use commands::FLASH_DATA;
 use commands::FLASH_END;
+use commands::FOUR_WORDS;
 use commands::MEM_BEGIN;
 use commands::MEM_DATA;
 use commands::MEM_END;
@@ -23,25 +24,25 @@ ghost use Rattle.lists.specs.Checks.{first};
 ghost use Rattle.sessions.specs.Errors.{plainChecks, dataChecks, endChecks, errorOf};
 
 // The error bytes, in the order of document 01's table.
-pub const UNKNOWN_COMMAND: u8 = 0xFF;
+const UNKNOWN_COMMAND: u8 = 0xFF;
 
-pub const WRONG_SIZE: u8 = 0xC0;
+const WRONG_SIZE: u8 = 0xC0;
 
-pub const NO_SESSION: u8 = 0xC6;
+const NO_SESSION: u8 = 0xC6;
 
-pub const WRONG_BLOCK_SIZE: u8 = 0xC2;
+const WRONG_BLOCK_SIZE: u8 = 0xC2;
 
-pub const BAD_PARAMETER: u8 = 0xC5;
+const BAD_PARAMETER: u8 = 0xC5;
 
-pub const ALL_ACCEPTED: u8 = 0xC9;
+const ALL_ACCEPTED: u8 = 0xC9;
 
-pub const OUT_OF_SEQUENCE: u8 = 0xC3;
+const OUT_OF_SEQUENCE: u8 = 0xC3;
 
-pub const WRONG_CHECKSUM: u8 = 0xC1;
+const WRONG_CHECKSUM: u8 = 0xC1;
 
-pub const BAD_PADDING: u8 = 0xC4;
+const BAD_PADDING: u8 = 0xC4;
 
-pub const BLOCKS_MISSING: u8 = 0xC8;
+const BLOCKS_MISSING: u8 = 0xC8;
 
 // A command that needs no session: its shape and its parameters.
 fn plain_error(shaped: bool, ruled: bool) -> u8
@@ -111,7 +112,7 @@ pub fn error_of(lengths: Lengths, session: Session, packet: &[u8]) -> u8
     let command = commands::command_of(packet);
     match command {
         FLASH_BEGIN => plain_error(
-            commands::shape_good(packet, 16),
+            commands::shape_good(packet, FOUR_WORDS),
             begins::flash_good(lengths, begins::begin_of(packet)),
         ),
         FLASH_DATA => data_error(flash_open(session), session, packet),
@@ -122,7 +123,7 @@ pub fn error_of(lengths: Lengths, session: Session, packet: &[u8]) -> u8
             session,
         ),
         MEM_BEGIN => plain_error(
-            commands::shape_good(packet, 16),
+            commands::shape_good(packet, FOUR_WORDS),
             begins::memory_good(lengths, begins::begin_of(packet)),
         ),
         MEM_END => end_error(
@@ -137,7 +138,7 @@ pub fn error_of(lengths: Lengths, session: Session, packet: &[u8]) -> u8
             commands::sync_good(packet),
         ),
         WRITE_REG => plain_error(
-            commands::shape_good(packet, 16),
+            commands::shape_good(packet, FOUR_WORDS),
             commands::write_good(lengths, packet),
         ),
         READ_REG => plain_error(

@@ -14,6 +14,7 @@ pub enum Session {
     Memory(Begin, u32),
 }
 
+// Whether a flash session is open.
 pub fn flash_open(session: Session) -> bool
     ensures { λ r. ⌜ r ≡ flashOpen session ⌝ }
 {
@@ -24,6 +25,7 @@ pub fn flash_open(session: Session) -> bool
     }
 }
 
+// Whether a memory session is open.
 pub fn memory_open(session: Session) -> bool
     ensures { λ r. ⌜ r ≡ memoryOpen session ⌝ }
 {
@@ -34,6 +36,7 @@ pub fn memory_open(session: Session) -> bool
     }
 }
 
+// What the open session's BEGIN announced; zeros where none is open.
 pub fn announced_by(session: Session) -> Begin
     ensures { λ r. ⌜ r ≡ announced session ⌝ }
 {
@@ -49,6 +52,7 @@ pub fn announced_by(session: Session) -> Begin
     }
 }
 
+// How many blocks of the open session are accepted.
 pub fn accepted_by(session: Session) -> u32
     ensures { λ r. ⌜ r ≡ accepted session ⌝ }
 {

@@ -131,7 +131,7 @@ fn read_digit(reader: Reader, d: u8) -> Reader {
 
 // A digit of how often a byte stands.
 fn read_count(reader: Reader, d: u8) -> Reader {
-    let times = reader.times % 1000 * 10 + (d % 10) as usize;
+    let times = reader.times % 1000 * 10 + d as usize;
     Reader {
         last: COUNTED,
         byte: reader.byte,
@@ -155,10 +155,13 @@ fn read(reader: Reader, character: u8) -> Reader {
         return reader;
     }
     if d < 10 {
-        if STARRED <= last {
+        if last <= HALF {
+            return read_digit(reader, d);
+        }
+        if reader.times < 1000 {
             return read_count(reader, d);
         }
-        return read_digit(reader, d);
+        return moved(reader, WRONG);
     }
     if d < GAP {
         if last <= HALF {

@@ -39,13 +39,21 @@ same-length : tie.Need-same-length
 same-length c = search needs
 
 returns : tie.Need-returns
-returns c = unreplied _ _ _ _ (rw (c .before .before .before .before .before .before .before .bytes-of .ensures, c .before .before .before .before .before .before .before .before .status-of .ensures) at (c .before .before .before .before .frame .ensures)) refl _ (c .enum-told .given .1)
+returns c =
+    let at-frame = c .before .before .before .before in
+    let at-bytes-of = at-frame .before .before .before in
+    let at-status-of = at-bytes-of .before in
+    unreplied _ _ _ _ (rw (at-bytes-of .bytes-of .ensures, at-status-of .status-of .ensures) at (at-frame .frame .ensures)) refl _ (c .enum-told .given .1)
 
 same-length-2 : tie.Need-same-length-2
 same-length-2 c = search needs
 
 returns-2 : tie.Need-returns-2
-returns-2 c = replied _ _ _ _ (rw (c .before .before .before .before .before .before .before .before .bytes-of .ensures, c .before .before .before .before .before .before .before .before .before .status-of .ensures) at (c .before .before .before .before .before .frame .ensures)) refl _ (c .before .n .given .1)
+returns-2 c =
+    let at-frame = c .before .before .before .before .before in
+    let at-bytes-of = at-frame .before .before .before in
+    let at-status-of = at-bytes-of .before in
+    replied _ _ _ _ (rw (at-bytes-of .bytes-of .ensures, at-status-of .status-of .ensures) at (at-frame .frame .ensures)) refl _ (c .before .n .given .1)
 
 pub reply-spec : {M : Type 1} → statement M
 reply-spec =

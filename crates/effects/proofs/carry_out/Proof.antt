@@ -44,8 +44,8 @@ leaving-requires-2 c κs = search needs
 flash-note-requires : tie.Need-flash-note-requires
 flash-note-requires c κs = search needs
 
-closing-requires : tie.Need-closing-requires
-closing-requires c κs = search needs
+ending-requires : tie.Need-ending-requires
+ending-requires c κs = search needs
 
 begin-of-requires-2 : tie.Need-begin-of-requires-2
 begin-of-requires-2 c κs = search needs
@@ -56,8 +56,8 @@ leaving-requires-3 c κs = search needs
 memory-note-requires : tie.Need-memory-note-requires
 memory-note-requires c κs = search needs
 
-closing-requires-2 : tie.Need-closing-requires-2
-closing-requires-2 c κs = search needs
+ending-requires-2 : tie.Need-ending-requires-2
+ending-requires-2 c κs = search needs
 
 announced-by-requires-2 : tie.Need-announced-by-requires-2
 announced-by-requires-2 c κs = search needs
@@ -85,13 +85,19 @@ leaving-requires-5 : tie.Need-leaving-requires-5
 leaving-requires-5 c κs = search needs
 
 write-register-requires : tie.Need-write-register-requires
-write-register-requires c κs = let a = c .before .before .before .before .before .before .args in written-place _ (a .session) (a .packet .now) _ (c .before .before .command-of .ensures) (c .before .before .before .before .before .before .pre .0) (c .before .match .keys8)
+write-register-requires c κs =
+    let at-command-of = c .before .before in
+    let start = at-command-of .before .before .before .before in
+    let a = start .args in written-place _ (a .session) (a .packet .now) _ (at-command-of .command-of .ensures) (start .pre .0) (c .before .match .keys8)
 
 leaving-requires-6 : tie.Need-leaving-requires-6
 leaving-requires-6 c κs = search needs
 
 read-register-requires : tie.Need-read-register-requires
-read-register-requires c κs = let a = c .before .before .before .before .before .before .args in read-place _ (a .session) (a .packet .now) _ (c .before .before .command-of .ensures) (c .before .before .before .before .before .before .pre .0) (c .before .match .keys9)
+read-register-requires c κs =
+    let at-command-of = c .before .before in
+    let start = at-command-of .before .before .before .before in
+    let a = start .args in read-place _ (a .session) (a .packet .now) _ (at-command-of .command-of .ensures) (start .pre .0) (c .before .match .keys9)
 
 word-at-requires : tie.Need-word-at-requires
 word-at-requires c κs = search needs
@@ -104,7 +110,11 @@ leaving-requires-8 c κs = search needs
 
 returns : tie.Need-returns
 unfolding kind effect
-returns c = does-at _ (c .before .before .before .before .before .before .before .args .packet .now) _ _ _ _ (c .before .before .before .command-of .ensures) 0x02 (c .before .before .match .keys1) (leaves _ _ _ _ _ _ _ _ _ _ (c .leaving .ensures) refl (rw (c .before .begin-of .ensures)) refl refl refl)
+returns c =
+    let at-match = c .before .before in
+    let at-command-of = at-match .before in
+    let start = at-command-of .before .before .before .before in
+    does-at _ (start .args .packet .now) _ _ _ _ (at-command-of .command-of .ensures) 0x02 (at-match .match .keys1) (leaves _ _ _ _ _ _ _ _ _ _ (c .leaving .ensures) refl (rw (c .before .begin-of .ensures)) refl refl refl)
 
 same-length : tie.Need-same-length
 same-length c = search needs
@@ -125,15 +135,27 @@ returns-2 c =
 
 returns-3 : tie.Need-returns-3
 unfolding kind effect
-returns-3 c = does-at _ (c .before .before .before .before .before .before .before .args .packet .now) _ _ _ _ (c .before .before .before .command-of .ensures) 0x04 (c .before .before .match .keys3) (leaves _ _ _ _ _ _ _ _ _ _ (c .closing .ensures) (rw (c .before .flash-note .ensures)) refl refl refl refl)
+returns-3 c =
+    let at-match = c .before .before in
+    let at-command-of = at-match .before in
+    let start = at-command-of .before .before .before .before in
+    does-at _ (start .args .packet .now) _ _ _ _ (at-command-of .command-of .ensures) 0x04 (at-match .match .keys3) (leaves _ _ _ _ _ _ _ _ _ _ (c .ending .ensures) (rw (c .before .flash-note .ensures)) refl refl refl refl)
 
 returns-4 : tie.Need-returns-4
 unfolding kind effect
-returns-4 c = does-at _ (c .before .before .before .before .before .before .before .args .packet .now) _ _ _ _ (c .before .before .before .command-of .ensures) 0x05 (c .before .before .match .keys4) (leaves _ _ _ _ _ _ _ _ _ _ (c .leaving3 .ensures) refl (rw (c .before .begin-of2 .ensures)) refl refl refl)
+returns-4 c =
+    let at-match = c .before .before in
+    let at-command-of = at-match .before in
+    let start = at-command-of .before .before .before .before in
+    does-at _ (start .args .packet .now) _ _ _ _ (at-command-of .command-of .ensures) 0x05 (at-match .match .keys4) (leaves _ _ _ _ _ _ _ _ _ _ (c .leaving3 .ensures) refl (rw (c .before .begin-of2 .ensures)) refl refl refl)
 
 returns-5 : tie.Need-returns-5
 unfolding kind effect
-returns-5 c = does-at _ (c .before .before .before .before .before .before .before .args .packet .now) _ _ _ _ (c .before .before .before .command-of .ensures) 0x06 (c .before .before .match .keys5) (leaves _ _ _ _ _ _ _ _ _ _ (c .closing2 .ensures) (rw (c .before .memory-note .ensures)) refl refl refl refl)
+returns-5 c =
+    let at-match = c .before .before in
+    let at-command-of = at-match .before in
+    let start = at-command-of .before .before .before .before in
+    does-at _ (start .args .packet .now) _ _ _ _ (at-command-of .command-of .ensures) 0x06 (at-match .match .keys5) (leaves _ _ _ _ _ _ _ _ _ _ (c .ending2 .ensures) (rw (c .before .memory-note .ensures)) refl refl refl refl)
 
 same-length-2 : tie.Need-same-length-2
 same-length-2 c = search needs
@@ -154,7 +176,10 @@ returns-6 c =
 
 returns-7 : tie.Need-returns-7
 unfolding kind effect
-returns-7 c = does-at _ (c .before .before .before .before .before .before .args .packet .now) _ _ _ _ (c .before .before .command-of .ensures) 0x08 (c .before .match .keys7) (leaves _ _ _ _ _ _ _ _ _ _ (c .leaving5 .ensures) refl refl refl refl refl)
+returns-7 c =
+    let at-command-of = c .before .before in
+    let start = at-command-of .before .before .before .before in
+    does-at _ (start .args .packet .now) _ _ _ _ (at-command-of .command-of .ensures) 0x08 (c .before .match .keys7) (leaves _ _ _ _ _ _ _ _ _ _ (c .leaving5 .ensures) refl refl refl refl refl)
 
 same-length-3 : tie.Need-same-length-3
 same-length-3 c = search needs
@@ -173,15 +198,26 @@ same-length-4 c = search needs
 
 returns-9 : tie.Need-returns-9
 unfolding kind effect
-returns-9 c = does-at _ (c .before .before .before .before .before .before .before .args .packet .now) _ _ _ _ (c .before .before .before .command-of .ensures) 0x0A (c .before .before .match .keys9) (record { reply = rw (c .read-register .ensures); session = refl; attach = refl; in-flash = refl; in-words = refl })
+returns-9 c =
+    let at-match = c .before .before in
+    let at-command-of = at-match .before in
+    let start = at-command-of .before .before .before .before in
+    does-at _ (start .args .packet .now) _ _ _ _ (at-command-of .command-of .ensures) 0x0A (at-match .match .keys9) (record { reply = rw (c .read-register .ensures); session = refl; attach = refl; in-flash = refl; in-words = refl })
 
 returns-10 : tie.Need-returns-10
 unfolding kind effect
-returns-10 c = does-at _ (c .before .before .before .before .before .before .before .args .packet .now) _ _ _ _ (c .before .before .before .command-of .ensures) 0x0D (c .before .before .match .keys10) (leaves _ _ _ _ _ _ _ _ _ _ (c .leaving7 .ensures) refl refl (c .before .word-at .ensures) refl refl)
+returns-10 c =
+    let at-match = c .before .before in
+    let at-command-of = at-match .before in
+    let start = at-command-of .before .before .before .before in
+    does-at _ (start .args .packet .now) _ _ _ _ (at-command-of .command-of .ensures) 0x0D (at-match .match .keys10) (leaves _ _ _ _ _ _ _ _ _ _ (c .leaving7 .ensures) refl refl (c .before .word-at .ensures) refl refl)
 
 returns-11 : tie.Need-returns-11
 unfolding effect
-returns-11 c = does-none _ (c .before .before .before .before .before .before .args .packet .now) _ _ _ _ (c .before .before .command-of .ensures) (kind-none _ (c .before .match .rest)) (leaves _ _ _ _ _ _ _ _ _ _ (c .leaving8 .ensures) refl refl refl refl refl)
+returns-11 c =
+    let at-command-of = c .before .before in
+    let start = at-command-of .before .before .before .before in
+    does-none _ (start .args .packet .now) _ _ _ _ (at-command-of .command-of .ensures) (kind-none _ (c .before .match .rest)) (leaves _ _ _ _ _ _ _ _ _ _ (c .leaving8 .ensures) refl refl refl refl refl)
 
 pub carry-out-spec : {M : Type 1} → statement M
 carry-out-spec =
@@ -196,11 +232,11 @@ carry-out-spec =
     advanced-by-requires
     leaving-requires-2
     flash-note-requires
-    closing-requires
+    ending-requires
     begin-of-requires-2
     leaving-requires-3
     memory-note-requires
-    closing-requires-2
+    ending-requires-2
     announced-by-requires-2
     accepted-by-requires-2
     write-words-requires

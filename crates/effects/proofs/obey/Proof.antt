@@ -15,7 +15,11 @@ leaving-requires : tie.Need-leaving-requires
 leaving-requires c κs = search needs
 
 returns : tie.Need-returns
-returns c = obeyed-failed _ (c .before .before .before .before .before .before .before .args .packet .now) _ _ (c .before .before .before .if-sound .ensures) (c .before .before .error-of .ensures) (c .before .if1 .taken) _ (c .leaving .ensures)
+returns c =
+    let at-error-of = c .before .before in
+    let at-if-sound = at-error-of .before in
+    let start = at-if-sound .before .before .before .before in
+    obeyed-failed _ (start .args .packet .now) _ _ (at-if-sound .if-sound .ensures) (at-error-of .error-of .ensures) (c .before .if1 .taken) _ (c .leaving .ensures)
 
 carry-out-requires : tie.Need-carry-out-requires
 carry-out-requires c κs = (sym (c .before .before .before .error-of .ensures) ∙ c .before .before .if1 .left, rw (c .before .before .before .before .if-sound .ensures) (if-sound-good _ _))
