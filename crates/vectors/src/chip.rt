@@ -1,17 +1,20 @@
-// The operations on line bytes: frames, a loader that is fed, and the flash that it leaves.
+// The operations on line bytes: frames, a loader that is fed, and the flash that it leaves. What they give stands at the front of a
+// buffer, and they say how many bytes it is.
 use crate::names;
-use crate::plain::number_at;
-use crate::show::Outcome;
-use crate::table::LONGEST_FIELD;
-use crate::table::part;
+use fields::word_at;
 use framing::Closing;
 use framing::Framed;
 use framing::LONGEST;
 use loader::Answer;
+use tables::part;
+use tables::put_byte;
 
-// The buffer of what operations give: bytes at its front, and behind a field's the flash that the last loader left.
+// The most bytes of a field: the longest packet, framed, and more.
+pub const LONGEST_FIELD: usize = 2 * LONGEST + 2;
+
 const FLASH_LENGTH: usize = 65536;
 
+// The buffer of what operations give: bytes at its front, and behind a field's the flash that the last loader left.
 pub const GOT: usize = LONGEST_FIELD + FLASH_LENGTH;
 
 // The error of a call that does not answer: no command has it.
@@ -26,6 +29,7 @@ struct Said {
     sent: usize,
 }
 
+// What is said after one more call.
 fn joined(said: Said, answer: Answer) -> Said {
     match answer {
         Answer::Refused(_) => Said {
@@ -85,6 +89,7 @@ fn run(bytes: &[u8], got: &mut [u8]) -> Said {
     said
 }
 
+// How many bytes a whole packet has.
 fn whole(closing: Closing) -> usize {
     match closing {
         Closing::Open => 0,
@@ -107,6 +112,7 @@ fn unframe(bytes: &[u8], got: &mut [u8]) -> usize {
     whole(closing)
 }
 
+// A packet, framed.
 fn frame(bytes: &[u8], got: &mut [u8]) -> usize {
     let Framed::Written(n) = framing::frame(bytes, got) else {
         return 0;
@@ -114,40 +120,35 @@ fn frame(bytes: &[u8], got: &mut [u8]) -> usize {
     n
 }
 
-pub fn on_line(operation: u8, input: &[u8], got: &mut [u8]) -> Outcome {
-    if operation == names::FRAME {
-        return Outcome::Front(frame(input, got));
-    }
-    if operation == names::UNFRAME {
-        return Outcome::Front(unframe(input, got));
-    }
+// A loader that is fed.
+fn on_loader(operation: u8, input: &[u8], got: &mut [u8]) -> usize {
     let said = run(input, got);
     match operation {
-        names::ANSWER => Outcome::Front(said.sent),
-        names::CLOSES => Outcome::Byte(said.closed),
-        _ => Outcome::Byte(said.errors | said.silent),
+        names::ANSWER => said.sent,
+        names::CLOSES => put_byte(said.closed, got),
+        _ => put_byte(said.errors | said.silent, got),
     }
 }
 
-// The flash's bytes from one address up to another; none where these are not its addresses in order.
-fn kept(got: &[u8], from: u32, upto: u32) -> &[u8] {
-    part(
-        got,
-        LONGEST_FIELD + from as usize,
-        LONGEST_FIELD + upto as usize,
-    )
+pub fn on_line(operation: u8, input: &[u8], got: &mut [u8]) -> usize {
+    if operation == names::FRAME {
+        return frame(input, got);
+    }
+    if operation == names::UNFRAME {
+        return unframe(input, got);
+    }
+    on_loader(operation, input, got)
 }
 
 // 0xFF where the flash is erased from one address up to another.
-fn erased(bytes: &[u8], got: &[u8]) -> Outcome {
-    let stretch = kept(got, number_at(bytes, 0), number_at(bytes, 4));
-    if stretch.len() == 0 {
-        return Outcome::Unknown;
+fn erased(input: &[u8], got: &[u8]) -> u8 {
+    let from = LONGEST_FIELD + word_at(input, 0) as usize;
+    let upto = LONGEST_FIELD + word_at(input, 4) as usize;
+    let stretch = part(got, from, upto);
+    if lists::all_from(stretch, 0, 0xFF) & (0 < stretch.len()) {
+        return 0xFF;
     }
-    if lists::all_from(stretch, 0, 0xFF) {
-        return Outcome::Byte(0xFF);
-    }
-    Outcome::Byte(0)
+    0
 }
 
 // The flash's byte at an address, 0 past its end.
@@ -157,20 +158,21 @@ fn flash_byte(got: &[u8], address: u32) -> u8 {
 }
 
 // The flash's bytes at some addresses.
-fn flash_at(bytes: &[u8], got: &mut [u8]) -> Outcome {
-    let count = bytes.len() / 4;
+fn flash_at(input: &[u8], got: &mut [u8]) -> usize {
+    let count = input.len() / 4;
     let mut n: usize = 0;
     while n < count {
-        let byte = flash_byte(got, number_at(bytes, n * 4));
+        let byte = flash_byte(got, word_at(input, n * 4));
         lists::fill(got, n, n + 1, byte);
         n += 1;
     }
-    Outcome::Front(n)
+    n
 }
 
-pub fn on_flash(operation: u8, input: &[u8], got: &mut [u8]) -> Outcome {
+pub fn on_flash(operation: u8, input: &[u8], got: &mut [u8]) -> usize {
     if operation == names::FLASH {
         return flash_at(input, got);
     }
-    erased(input, got)
+    let byte = erased(input, got);
+    put_byte(byte, got)
 }

@@ -3,64 +3,49 @@
 mod chip;
 mod names;
 mod plain;
-mod probe;
-mod show;
-mod table;
+mod read;
 
-use crate::chip::on_flash;
-use crate::chip::on_line;
-use crate::plain::on_bytes;
-use crate::probe::Probe;
-use crate::probe::call;
-use crate::probe::read_off;
-use crate::show::Outcome;
-use crate::show::show;
-use crate::table::part;
-use crate::table::past;
 use libc::STDIN_FILENO;
-use libc::STDOUT_FILENO;
+use tables::field;
+use tables::part;
+use tables::past;
 
-// What an operation gives. A link's call was made before.
-fn outcome_of(operation: u8, probe: Probe, input: &[u8], got: &mut [u8]) -> Outcome {
+// What an operation gives, at the front of a buffer; how many bytes it is.
+fn outcome(operation: u8, input: &[u8], got: &mut [u8]) -> usize {
     if operation < names::FRAME {
-        return on_bytes(operation, input);
+        return plain::on_bytes(operation, input, got);
     }
     if operation < names::FLASH {
-        return on_line(operation, input, got);
+        return chip::on_line(operation, input, got);
     }
-    if operation < names::PULL {
-        return on_flash(operation, input, got);
-    }
-    read_off(operation, probe)
+    chip::on_flash(operation, input, got)
 }
 
-// A line of the table, with its line feed: a comment, or a row that is run and shown.
-fn run_line(probe: Probe, line: &[u8], got: &mut [u8]) -> Probe {
-    let row = table::row_of(line);
-    if row.comment {
-        return probe;
+// A line of the table, with its line feed: a comment, a row, or a line that is not as the table's head says.
+fn run_line(line: &[u8], got: &mut [u8]) {
+    if (line.len() == 1) | (past(line, 0, b'#') == 1) {
+        return;
     }
-    let mut buffer = [0u8; table::LONGEST_FIELD];
-    let n = table::decode(part(line, row.input, row.expected), &mut buffer);
-    if n == table::MALFORMED {
-        show::bad_line(line);
-        return probe;
-    }
-    let input = part(&buffer, 0, n);
+    let row = tables::row_of(line);
     let operation = names::number_of(part(line, row.operation, row.input));
-    let next = call(probe, operation, input, got);
-    let outcome = outcome_of(operation, next, input, got);
-    show(line, row, outcome, got);
-    next
+    let mut buffer = [0u8; chip::LONGEST_FIELD];
+    let n = read::bytes_of(part(line, row.input, row.expected), &mut buffer);
+    let known = (operation < names::UNKNOWN) & (row.expected < line.len());
+    if known & (n <= chip::LONGEST_FIELD) {
+        let given = outcome(operation, part(&buffer, 0, n), got);
+        let expected = field(line, row.expected, line.len());
+        tables::show(part(line, 0, row.operation), expected, part(got, 0, given));
+        return;
+    }
+    tables::show(b"BAD LINE\t", field(line, 0, line.len()), b"");
 }
 
 fn run_table(text: &[u8]) {
     let mut got = [0u8; chip::GOT];
-    let mut probe = probe::new();
     let mut at: usize = 0;
     while at < text.len() {
         let next = past(text, at, b'\n');
-        probe = run_line(probe, part(text, at, next), &mut got);
+        run_line(part(text, at, next), &mut got);
         at = next;
     }
 }
@@ -69,7 +54,7 @@ fn main() {
     let mut text = io::large_buffer();
     let n = io::read_full(STDIN_FILENO, &mut text);
     if n == text.len() {
-        io::write_all(STDOUT_FILENO, b"TABLE TOO LONG\n");
+        tables::show(b"", b"TABLE TOO LONG", b"");
     }
     run_table(part(&text, 0, n));
 }

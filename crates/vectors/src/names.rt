@@ -1,14 +1,13 @@
 // The operations, by their names in the table.
-use crate::table::TAB;
-use crate::table::part;
-use crate::table::past;
+use tables::TAB;
+use tables::part;
+use tables::past;
 
 // Each name has the number of its place here.
-const NAMES: [u8; 144] = *b"\
+const NAMES: [u8; 95] = *b"\
     checksum\tcommand\tsize\tvalue\taddress\tmerge\tpack\t\
     frame\tunframe\tanswer\tcloses\terrors\t\
-    flash\terased\t\
-    pull\thear\tsend\tpoll\trate\tphase\tsent\thanded\theard\t";
+    flash\terased\t";
 
 pub const CHECKSUM: u8 = 0;
 
@@ -38,24 +37,6 @@ pub const FLASH: u8 = 12;
 
 pub const ERASED: u8 = 13;
 
-pub const PULL: u8 = 14;
-
-pub const HEAR: u8 = 15;
-
-pub const SEND: u8 = 16;
-
-pub const POLL: u8 = 17;
-
-pub const RATE: u8 = 18;
-
-pub const PHASE: u8 = 19;
-
-pub const SENT: u8 = 20;
-
-pub const HANDED: u8 = 21;
-
-pub const HEARD: u8 = 22;
-
 // No operation has it.
 pub const UNKNOWN: u8 = 255;
 
@@ -64,7 +45,7 @@ pub fn number_of(name: &[u8]) -> u8 {
     let names = NAMES;
     let mut number: u8 = 0;
     let mut at: usize = 0;
-    while at < 144 {
+    while at < 95 {
         let next = past(&names, at, TAB);
         if lists::same(name, part(&names, at, next)) {
             return number;

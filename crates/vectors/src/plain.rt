@@ -1,18 +1,14 @@
-// The operations on bytes alone.
+// The operations on bytes alone. What they give stands at the front of a buffer, and they say how many bytes it is.
 use crate::names;
-use crate::show::Outcome;
-use crate::show::high_first;
+use fields::FIRST_WORD;
 use fields::Packed;
 use fields::Pins;
+use fields::word_at;
+use tables::put_byte;
+use tables::put_word;
 
 // What a refusal of pins is shown as, which no pins give.
 const REFUSED: u32 = 0xEEEEEEEE;
-
-// The number whose four bytes stand at a place, the highest first; bytes that are not there are 0.
-pub fn number_at(bytes: &[u8], at: usize) -> u32 {
-    let swapped = high_first(fields::word_at(bytes, at));
-    fields::word_at(&swapped, 0)
-}
 
 fn word_of(packed: Packed) -> u32 {
     match packed {
@@ -24,32 +20,37 @@ fn word_of(packed: Packed) -> u32 {
 // The word of five pins: HD, Q, D, CS, CLK.
 fn pack(bytes: &[u8]) -> u32 {
     let pins = Pins {
-        hd: number_at(bytes, 0),
-        q: number_at(bytes, 4),
-        d: number_at(bytes, 8),
-        cs: number_at(bytes, 12),
-        clk: number_at(bytes, 16),
+        hd: word_at(bytes, 0),
+        q: word_at(bytes, 4),
+        d: word_at(bytes, 8),
+        cs: word_at(bytes, 12),
+        clk: word_at(bytes, 16),
     };
     word_of(fields::pack(pins))
 }
 
+// The merge of three words: the old one, the value, the mask.
 fn merge(bytes: &[u8]) -> u32 {
-    fields::merge(
-        number_at(bytes, 0),
-        number_at(bytes, 4),
-        number_at(bytes, 8),
-    )
+    fields::merge(word_at(bytes, 0), word_at(bytes, 4), word_at(bytes, 8))
 }
 
-pub fn on_bytes(operation: u8, input: &[u8]) -> Outcome {
+// What an operation on bytes gives: a byte or a word.
+fn value_of(operation: u8, input: &[u8]) -> u32 {
     match operation {
-        names::CHECKSUM => Outcome::Byte(fields::checksum_from(input, 0)),
-        names::COMMAND => Outcome::Byte(commands::command_of(input)),
-        names::SIZE => Outcome::Word(fields::half_at(input, 2)),
-        names::VALUE => Outcome::Word(fields::word_at(input, 4)),
-        names::ADDRESS => Outcome::Word(fields::word_at(input, 8)),
-        names::MERGE => Outcome::Word(merge(input)),
-        names::PACK => Outcome::Word(pack(input)),
-        _ => Outcome::Unknown,
+        names::CHECKSUM => fields::checksum_from(input, 0) as u32,
+        names::COMMAND => commands::command_of(input) as u32,
+        names::SIZE => fields::half_at(input, 2),
+        names::VALUE => word_at(input, 4),
+        names::ADDRESS => word_at(input, FIRST_WORD),
+        names::MERGE => merge(input),
+        _ => pack(input),
     }
+}
+
+pub fn on_bytes(operation: u8, input: &[u8], got: &mut [u8]) -> usize {
+    let value = value_of(operation, input);
+    if operation <= names::COMMAND {
+        return put_byte((value % 256) as u8, got);
+    }
+    put_word(value, got)
 }

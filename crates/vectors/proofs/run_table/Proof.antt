@@ -4,17 +4,15 @@ use mathlib.Core.Path.{_≡_, refl}
 use native.Mathlib.Omega.{arith}
 use lib.ListN.{length}
 use borrow.Author.Needs.{needs}
+use Rattle.tables.proofs.Places.{goes-on}
 use Rattle.vectors.proofs.run_table.Statement.{statement}
 use Rattle.vectors.proofs.run_table.Tie as tie
 
 abbrev Inv-loop : tie.InvT-loop
-Inv-loop text got₀ probe₀ at₀ got probe at = length got ≡ 73778
+Inv-loop text got₀ at₀ got at = length got ≡ 73778
 
 abbrev μ-loop : tie.MeasureT-loop
-μ-loop text got₀ probe₀ at₀ got probe at = length text - at
-
-new-requires : tie.Need-new-requires Inv-loop μ-loop
-new-requires c κs = tt
+μ-loop text got₀ at₀ got at = length text - at
 
 loop-holds : tie.Need-loop-holds Inv-loop μ-loop
 loop-holds c = refl
@@ -32,7 +30,9 @@ run-line-requires : tie.Need-run-line-requires Inv-loop μ-loop
 run-line-requires c κs = tt
 
 loop-less : tie.Need-loop-less Inv-loop μ-loop
-loop-less c = omega (arith, c .before .before .before .before .past .ensures (c .before .before .before .before .before .loop-test .taken))
+loop-less c =
+    let at-past = c .before .before .before .before in
+    omega (arith, goes-on _ _ _ _ (at-past .past .ensures) (at-past .before .loop-test .taken))
 
 loop-again : tie.Need-loop-again Inv-loop μ-loop
 loop-again c = search needs
@@ -46,7 +46,6 @@ run-table-spec =
     (tie.spec
     Inv-loop
     μ-loop
-    new-requires
     loop-holds
     past-requires
     part-requires

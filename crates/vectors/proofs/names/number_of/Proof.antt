@@ -3,14 +3,15 @@ use Prim.Native.Nat.{_-_}
 use mathlib.Core.Path.{_≡_, refl}
 use native.Mathlib.Omega.{arith}
 use lib.ListN.{length}
+use Rattle.tables.proofs.Places.{goes-on}
 use Rattle.vectors.proofs.names.number_of.Statement.{statement}
 use Rattle.vectors.proofs.names.number_of.Tie as tie
 
 abbrev Inv-loop : tie.InvT-loop
-Inv-loop name names number₀ at₀ number at = length names ≡ 144
+Inv-loop name names number₀ at₀ number at = length names ≡ 95
 
 abbrev μ-loop : tie.MeasureT-loop
-μ-loop name names number₀ at₀ number at = 144 - at
+μ-loop name names number₀ at₀ number at = 95 - at
 
 loop-holds : tie.Need-loop-holds Inv-loop μ-loop
 loop-holds c = refl
@@ -37,7 +38,9 @@ wrapping-add-u8-requires : tie.Need-wrapping-add-u8-requires Inv-loop μ-loop
 wrapping-add-u8-requires c κs = tt
 
 loop-less : tie.Need-loop-less Inv-loop μ-loop
-loop-less c = omega (arith, c .before .before .before .before .before .past .ensures (omega arith))
+loop-less c =
+    let at-past = c .before .before .before .before .before in
+    omega (arith, goes-on _ _ _ _ (at-past .past .ensures) (at-past .before .before .loop-test .taken))
 
 loop-again : tie.Need-loop-again Inv-loop μ-loop
 loop-again c = refl

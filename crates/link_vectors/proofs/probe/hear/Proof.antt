@@ -4,8 +4,8 @@ use mathlib.Core.Path.{_≡_, refl}
 use native.Mathlib.Omega.{arith}
 use lib.ListN.{length}
 use borrow.Author.Needs.{needs}
-use Rattle.vectors.proofs.probe.hear.Statement.{statement}
-use Rattle.vectors.proofs.probe.hear.Tie as tie
+use Rattle.link_vectors.proofs.probe.hear.Statement.{statement}
+use Rattle.link_vectors.proofs.probe.hear.Tie as tie
 
 abbrev Inv-loop : tie.InvT-loop
 Inv-loop bytes tick got₀ state₀ i₀ got state i = (i ≤ length bytes) × (length got ≡ length got₀)

@@ -1,12 +1,10 @@
 // The operations on a link.
 use crate::names;
-use crate::plain::number_at;
-use crate::show::Outcome;
-use crate::table::part;
 use link::Event;
 use link::Link;
 use link::Next;
 use link::Phase;
+use tables::part;
 
 // What events are shown as.
 const NOTHING: u8 = 0x00;
@@ -123,13 +121,10 @@ fn call_once(operation: u8, link: Link, bytes: &[u8], tick: u32, got: &mut [u8])
 
 // The calls of a link, where the operation is one, at the tick that the first four bytes are.
 pub fn call(probe: Probe, operation: u8, input: &[u8], got: &mut [u8]) -> Probe {
-    if operation < names::PULL {
-        return probe;
-    }
     if names::POLL < operation {
         return probe;
     }
-    let tick = number_at(input, 0);
+    let tick = fields::word_at(input, 0);
     let bytes = part(input, 4, input.len());
     if operation == names::HEAR {
         return hear(probe, bytes, tick, got);
@@ -146,16 +141,18 @@ fn phase_of(link: Link) -> u8 {
     }
 }
 
-// What is read off a link and its last call.
-pub fn read_off(operation: u8, probe: Probe) -> Outcome {
-    let link = probe.link;
+// What is read off a link and its last call, which sent the bytes at the front of `answer`, at the front of `told`; how many bytes
+// that is.
+pub fn read_off(operation: u8, probe: Probe, answer: &[u8], told: &mut [u8]) -> usize {
     match operation {
-        names::PULL | names::HEAR | names::SEND | names::POLL => Outcome::Byte(probe.event),
-        names::RATE => Outcome::Word(link.rate),
-        names::PHASE => Outcome::Byte(phase_of(link)),
-        names::SENT => Outcome::Front(probe.sent),
-        names::HANDED => Outcome::Word((probe.handed % 256) as u32),
-        names::HEARD => Outcome::Word((probe.heard % 256) as u32),
-        _ => Outcome::Unknown,
+        names::RATE => tables::put_word(probe.link.rate, told),
+        names::PHASE => tables::put_byte(phase_of(probe.link), told),
+        names::SENT => {
+            lists::copy_at(told, 0, part(answer, 0, probe.sent));
+            probe.sent
+        }
+        names::HANDED => tables::put_word((probe.handed % 256) as u32, told),
+        names::HEARD => tables::put_word((probe.heard % 256) as u32, told),
+        _ => tables::put_byte(probe.event, told),
     }
 }
