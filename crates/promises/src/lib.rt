@@ -52,7 +52,8 @@ pub fn packed_says()
 
 // ---- Demand 3: FLASH_END succeeds exactly where the packets so far fit the grammar, and flash is then as announced.
 
-// From a session that refusal 5 lets pass: no packet changes the length of flash or words, leaves a session that refusal 5 would strike, or makes a good attach word bad.
+// From a session that refusal 5 lets pass, no packet changes the length of flash or words, leaves a session that refusal 5 would
+// strike, or makes a good attach word bad.
 pub fn packets_keep()
     ensures { λ r. ⌜ PacketsKeep ⌝ }
 {}
