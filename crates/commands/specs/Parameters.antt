@@ -30,7 +30,7 @@ syncRule p = sameBytes (take 4 (drop FIRST-WORD p)) (0x07 ∷ 0x07 ∷ 0x12 ∷ 
 unfoldable pub registerRule : Lengths → ℕ → Bool
 registerRule l a = inWords l a && eqb (a % 4) 0
 
--- WRITE_REG: "address, value, mask, delay ... Delay must be 0"
+-- WRITE_REG: "address, value, mask, delay. .. Delay must be 0 (house)."
 unfoldable pub writeRule : Lengths → List ℕ → Bool
 writeRule l p = registerRule l (word p FIRST-WORD) && eqb (word p FOURTH-WORD) 0
 

@@ -43,7 +43,7 @@ byType type heartbeat status baud control bytes none =
     (cond (eqb type controlType) control
     (cond (eqb type dataType) bytes none))))
 
--- "01 heartbeat, none; 02 status, one byte 0 to 2; 03 baud, four bytes; 04 control, 0 start or 1 stop RPC; 05 data, size 0 to 64 and that many bytes":
+-- "01 heartbeat, none; 02 status, one byte 0 to 2; 03 baud, four bytes, least first (house, the source gives no order); 04 control, 0 start or 1 stop RPC; 05 data, size 0 to 64 and that many bytes":
 -- whether a type is one of these and the first byte of its contents is allowed; where that byte is yet to come it counts as 0
 unfoldable pub known : ℕ → ℕ → Bool
 known type first = byType type true (leb first 2) true (leb first 1) (leb first mostData) false

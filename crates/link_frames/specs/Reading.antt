@@ -1,4 +1,4 @@
--- "A wrong type, size, code or checksum is a detected error at the byte that shows it."
+-- "A wrong type, size, code or checksum is a detected error at the byte that shows it": what a byte more makes of those held.
 use mathlib.Core.List.{List, [], _∷_, _++_}
 use mathlib.Core.Bool.{Bool, cond, _&&_, _||_}
 use Prim.Native.Nat.{ℕ}

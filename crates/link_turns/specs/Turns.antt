@@ -22,7 +22,7 @@ answers l bytes = move l nothing bytes (padded [])
 abbrev pub tells : Link → Saying → Move
 tells l saying = move l saying [] (padded [])
 
--- "a detected error: back to Start, nothing sent"
+-- "a detected error at the byte that shows it: back to Start, nothing sent"
 abbrev pub broken : Move
 broken = tells fresh detected
 
@@ -58,6 +58,6 @@ unfoldable pub openFrame : Link → ℕ → ℕ → List ℕ → Move
 openFrame l type code bytes =
     byType type (answers l heartbeat) (statusFrame l code) broken (controlFrame l code) (takenData l code bytes) broken
 
--- "Start: bytes are ignored." "Dead time: bytes less than 25 ms after that frame are ignored."
+-- Start: "bytes are ignored"; dead time: "bytes less than 25 ms after that frame are ignored"
 unfoldable pub listens : Phase → Bool → Bool
 listens phase dead = byPhase phase false true (not dead)

@@ -99,7 +99,7 @@ fn whole(closing: Closing) -> usize {
 }
 
 // The packet that the last of some line bytes closes.
-fn unframe(bytes: &[u8], got: &mut [u8]) -> usize {
+pub fn unframe(bytes: &[u8], got: &mut [u8]) -> usize {
     let mut line = framing::new();
     let mut closing = Closing::Open;
     let mut i: usize = 0;
@@ -113,7 +113,7 @@ fn unframe(bytes: &[u8], got: &mut [u8]) -> usize {
 }
 
 // A packet, framed.
-fn frame(bytes: &[u8], got: &mut [u8]) -> usize {
+pub fn frame(bytes: &[u8], got: &mut [u8]) -> usize {
     let Framed::Written(n) = framing::frame(bytes, got) else {
         return 0;
     };
@@ -121,7 +121,7 @@ fn frame(bytes: &[u8], got: &mut [u8]) -> usize {
 }
 
 // A loader that is fed.
-fn on_loader(operation: u8, input: &[u8], got: &mut [u8]) -> usize {
+pub fn on_loader(operation: u8, input: &[u8], got: &mut [u8]) -> usize {
     let said = run(input, got);
     match operation {
         names::ANSWER => said.sent,
@@ -130,18 +130,8 @@ fn on_loader(operation: u8, input: &[u8], got: &mut [u8]) -> usize {
     }
 }
 
-pub fn on_line(operation: u8, input: &[u8], got: &mut [u8]) -> usize {
-    if operation == names::FRAME {
-        return frame(input, got);
-    }
-    if operation == names::UNFRAME {
-        return unframe(input, got);
-    }
-    on_loader(operation, input, got)
-}
-
 // 0xFF where the flash is erased from one address up to another.
-fn erased(input: &[u8], got: &[u8]) -> u8 {
+pub fn erased(input: &[u8], got: &[u8]) -> u8 {
     let from = LONGEST_FIELD + word_at(input, 0) as usize;
     let upto = LONGEST_FIELD + word_at(input, 4) as usize;
     let stretch = part(got, from, upto);
@@ -158,7 +148,7 @@ fn flash_byte(got: &[u8], address: u32) -> u8 {
 }
 
 // The flash's bytes at some addresses.
-fn flash_at(input: &[u8], got: &mut [u8]) -> usize {
+pub fn flash_at(input: &[u8], got: &mut [u8]) -> usize {
     let count = input.len() / 4;
     let mut n: usize = 0;
     while n < count {
@@ -167,12 +157,4 @@ fn flash_at(input: &[u8], got: &mut [u8]) -> usize {
         n += 1;
     }
     n
-}
-
-pub fn on_flash(operation: u8, input: &[u8], got: &mut [u8]) -> usize {
-    if operation == names::FLASH {
-        return flash_at(input, got);
-    }
-    let byte = erased(input, got);
-    put_byte(byte, got)
 }

@@ -3,7 +3,6 @@
 mod chip;
 mod names;
 mod plain;
-mod read;
 
 use libc::STDIN_FILENO;
 use tables::field;
@@ -12,13 +11,22 @@ use tables::past;
 
 // What an operation gives, at the front of a buffer; how many bytes it is.
 fn outcome(operation: u8, input: &[u8], got: &mut [u8]) -> usize {
-    if operation < names::FRAME {
-        return plain::on_bytes(operation, input, got);
+    match operation {
+        names::FRAME => chip::frame(input, got),
+        names::UNFRAME => chip::unframe(input, got),
+        names::ANSWER | names::CLOSES | names::ERRORS => chip::on_loader(operation, input, got),
+        names::FLASH => chip::flash_at(input, got),
+        names::ERASED => tables::put_byte(chip::erased(input, got), got),
+        _ => plain::on_bytes(operation, input, got),
     }
-    if operation < names::FLASH {
-        return chip::on_line(operation, input, got);
-    }
-    chip::on_flash(operation, input, got)
+}
+
+// A row: what stands before its operation, the bytes in and those expected, as text.
+fn run_row(head: &[u8], operation: u8, input: &[u8], expected: &[u8], got: &mut [u8]) {
+    let mut buffer = [0u8; chip::LONGEST_FIELD];
+    tables::decode(input, &mut buffer);
+    let n = outcome(operation, part(&buffer, 0, input.len() / 2), got);
+    tables::show(head, expected, part(got, 0, n));
 }
 
 // A line of the table, with its line feed: a comment, a row, or a line that is not as the table's head says.
@@ -28,13 +36,17 @@ fn run_line(line: &[u8], got: &mut [u8]) {
     }
     let row = tables::row_of(line);
     let operation = names::number_of(part(line, row.operation, row.input));
-    let mut buffer = [0u8; chip::LONGEST_FIELD];
-    let n = read::bytes_of(part(line, row.input, row.expected), &mut buffer);
+    let input = field(line, row.input, row.expected);
     let known = (operation < names::UNKNOWN) & (row.expected < line.len());
-    if known & (n <= chip::LONGEST_FIELD) {
-        let given = outcome(operation, part(&buffer, 0, n), got);
+    if known & (tables::is_hex(input) & (input.len() <= 2 * chip::LONGEST_FIELD)) {
         let expected = field(line, row.expected, line.len());
-        tables::show(part(line, 0, row.operation), expected, part(got, 0, given));
+        run_row(
+            part(line, 0, row.operation),
+            operation,
+            input,
+            expected,
+            got,
+        );
         return;
     }
     tables::show(b"BAD LINE\t", field(line, 0, line.len()), b"");
