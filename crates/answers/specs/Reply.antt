@@ -8,7 +8,7 @@ use lib.ListN.{length}
 use Rattle.lists.specs.Lay.{layIfFits}
 use Rattle.framing.specs.Frame.{framed}
 
--- the least answer buffer of document 01: ten bytes, each escaped to two, between two C0
+-- "answer room under 22 bytes": no framed answer is longer than ten bytes, each escaped to at most two, between two C0
 abbrev pub longestAnswer : ℕ
 longestAnswer = 22
 

@@ -4,10 +4,10 @@ ghost use mathlib.Core.Path.{_≡_};
 ghost use Rattle.answers.specs.Answer.{statusOf, answerBytes};
 ghost use Rattle.answers.specs.Reply.{Replies};
 
-// The longest answer, framed: ten bytes, each escaped to two, between two C0.
+// The least answer buffer: no framed answer is longer than ten bytes, each escaped to at most two, between two C0.
 pub const LONGEST_ANSWER: usize = 22;
 
-// The status byte of an error byte.
+// The status byte that is sent with an error byte.
 pub fn status_of(error: u8) -> u8
     ensures { λ r. ⌜ r ≡ statusOf error ⌝ }
 {
@@ -17,7 +17,8 @@ pub fn status_of(error: u8) -> u8
     1
 }
 
-// Writes an answer; how many bytes were written. Where the buffer is too short for it, nothing is.
+// Writes an answer; how many bytes from the front of the buffer are to be sent. Where the buffer is too short for it, none; 22 bytes
+// hold every answer.
 pub fn reply(command: u8, error: u8, value: u32, answer: &mut [u8]) -> usize
     ensures { λ r. ⌜ Replies (answerBytes command error value) (now (answer .entry)) r (now (answer .exit)) ⌝ }
 {

@@ -1,3 +1,4 @@
 pub mod Products
 pub mod Sectors
 pub mod Rules
+pub mod Count

@@ -1,7 +1,7 @@
 -- What a BEGIN announces, and the rules for its numbers: "b from 1 to 4,096; n = S/b rounded up; offset a multiple of 4,096; offset plus S rounded up to 4,096 is at most the flash length."
 use mathlib.Core.List.{List}
 use mathlib.Core.Bool.{Bool, _&&_}
-use Prim.Native.Nat.{ℕ, _+_, _*_, _/_, _%_, min}
+use Prim.Native.Nat.{ℕ, _+_, _-_, _*_, _/_, _%_, min}
 use lib.Dec.{leb, ltb, eqb}
 use Rattle.fields.specs.Words.{word}
 use Rattle.fields.specs.Places.{FIRST-WORD, SECOND-WORD, THIRD-WORD, FOURTH-WORD}
@@ -12,19 +12,27 @@ use Rattle.begins.specs.declared.Lengths.{Lengths}
 unfoldable pub beginOf : List ℕ → Begin
 beginOf p = record { size = word p FIRST-WORD; count = word p SECOND-WORD; block = word p THIRD-WORD; offset = word p FOURTH-WORD }
 
--- rounded up to a sector of 4,096 bytes
-unfoldable pub roundUp : ℕ → ℕ
-roundUp x = (x + 4095) / 4096 * 4096
+-- a sector's length in bytes
+abbrev pub sector : ℕ
+sector = 4096
 
--- n = S/b rounded up
+-- "b from 1 to 4,096": the largest block
+abbrev pub largestBlock : ℕ
+largestBlock = 4096
+
+-- rounded up to a sector
+unfoldable pub roundUp : ℕ → ℕ
+roundUp x = (x + (sector - 1)) / sector * sector
+
+-- n = S/b rounded up, without a division: S is at most n*b, and n*b less than b past it. Count.antt has it with the division.
 unfoldable pub counted : Begin → Bool
 counted g = leb (g .size) (g .count * g .block) && ltb (g .count * g .block) (g .size + g .block)
 
 unfoldable pub flashRule : Lengths → Begin → Bool
 flashRule l g =
     leb 1 (g .block)
-    && (leb (g .block) 4096
-    && (counted g && (eqb (g .offset % 4096) 0 && leb (g .offset + roundUp (g .size)) (l .flash))))
+    && (leb (g .block) largestBlock
+    && (counted g && (eqb (g .offset % sector) 0 && leb (g .offset + roundUp (g .size)) (l .flash))))
 
 -- "words that begin at address 0x40100000"
 abbrev pub memoryStart : ℕ
@@ -37,7 +45,7 @@ memoryEnd l = memoryStart + 4 * l .words
 unfoldable pub memoryRule : Lengths → Begin → Bool
 memoryRule l g =
     leb 4 (g .block)
-    && (leb (g .block) 4096
+    && (leb (g .block) largestBlock
     && (counted g
     && (eqb (g .size % 4) 0
     && (eqb (g .block % 4) 0

@@ -34,11 +34,17 @@ pub fn begin_of(packet: &[u8]) -> Begin
     }
 }
 
+// A sector's length in bytes.
+pub const SECTOR: u64 = 4096;
+
+// The largest block.
+pub const LARGEST_BLOCK: u32 = 4096;
+
 // Rounded up to a sector.
 pub fn round_up(x: u32) -> u64
     ensures { λ r. ⌜ r ≡ roundUp x ⌝ }
 {
-    (x as u64 + 4095) / 4096 * 4096
+    (x as u64 + (SECTOR - 1)) / SECTOR * SECTOR
 }
 
 // Whether the block count is the size over the block size, rounded up.
@@ -55,10 +61,10 @@ pub fn flash_good(lengths: Lengths, begin: Begin) -> bool
     ensures { λ r. ⌜ r ≡ flashRule lengths begin ⌝ }
 {
     let block = begin.block;
-    let offset = begin.offset;
-    let last = offset as u64 + round_up(begin.size);
-    let placed = (offset % 4096 == 0) & (last <= lengths.flash as u64);
-    (1 <= block) & ((block <= 4096) & (count_good(begin) & placed))
+    let offset = begin.offset as u64;
+    let last = offset + round_up(begin.size);
+    let placed = (offset % SECTOR == 0) & (last <= lengths.flash as u64);
+    (1 <= block) & ((block <= LARGEST_BLOCK) & (count_good(begin) & placed))
 }
 
 // The address of the first word.
@@ -89,7 +95,7 @@ pub fn memory_good(lengths: Lengths, begin: Begin) -> bool
     let last = address as u64 + size as u64;
     let placed = (MEMORY_START <= address) & up_to_end(lengths, last);
     let aligned = (size % 4 == 0) & ((block % 4 == 0) & ((address % 4 == 0) & placed));
-    (4 <= block) & ((block <= 4096) & (count_good(begin) & aligned))
+    (4 <= block) & ((block <= LARGEST_BLOCK) & (count_good(begin) & aligned))
 }
 
 // The smaller of two numbers, the second of 32 bits.

@@ -10,16 +10,16 @@ use Rattle.framing.specs.Frame.{longest, framed}
 use Rattle.framing.specs.Packets.{header}
 use Rattle.framing.specs.Line.{stepOf}
 use Rattle.framing.specs.Run.{fresh}
+use Rattle.effects.specs.Notes.{Order}
 use Rattle.effects.specs.Handle.{replied, handle}
-use Rattle.effects.specs.declared.Note.{Note}
 use Rattle.answers.specs.Answer.{answerBytes}
 use Rattle.loader.specs.Step.{taken, answerBuffer, toldOf}
 use Rattle.cases.specs.Feeding.{Lending, begun, sentCount, sends}
 use Rattle.cases.proofs.Fed.{packet-fed, freshCore, allowed-fresh}
 
 -- the answer's bytes are what is sent
-pub answered-with : (r : Lending) (p : List ℕ) → 1 ≤ length p → length p ≤ longest → (c e v : ℕ) (note : Note)
-    → handle (freshCore r) (header (some p)) .reply ≡ replied c e v note → sends r (framed p) ≡ framed (answerBytes c e v)
+pub answered-with : (r : Lending) (p : List ℕ) → 1 ≤ length p → length p ≤ longest → (c e v : ℕ) (order : Order)
+    → handle (freshCore r) (header (some p)) .reply ≡ replied c e v order → sends r (framed p) ≡ framed (answerBytes c e v)
 unfolding sends begun stepOf sentCount toldOf answerBuffer lay
-answered-with r p filled fits c e v note h =
+answered-with r p filled fits c e v order h =
     rw (packet-fed taken fresh (freshCore r) (r .packet) (r .answer) (allowed-fresh r) refl p filled fits, h) (take-at (framed (answerBytes c e v)) _ _ refl)

@@ -16,7 +16,7 @@ use Rattle.commands.specs.Parameters.{syncRule}
 use Rattle.sessions.specs.Errors.{kind, plainChecks, checks, errorOf}
 use Rattle.effects.specs.Effects.{effect}
 use Rattle.effects.specs.Handle.{carriedOut, failed, handle}
-use Rattle.effects.specs.declared.Note.the-variants.{Nothing}
+use Rattle.effects.specs.Notes.{no-order}
 use Rattle.link_state.specs.Clock.{silence, stillDead}
 use Rattle.link_state.specs.Link.{withDead}
 use Rattle.link_frames.specs.Frames as frames
@@ -35,13 +35,13 @@ starred = record {
   case-1 = refl;
   case-2 = refl;
   case-3 = refl;
-  case-4 = λ r. answered-with r (syncPacket 36 32) (omega arith) (omega arith) 8 0 0 Nothing refl;
-  case-5 = λ r. answered-with r (syncPacket 35 31) (omega arith) (omega arith) 8 0xC0 0 Nothing refl;
+  case-4 = λ r. answered-with r (syncPacket 36 32) (omega arith) (omega arith) 8 0 0 no-order refl;
+  case-5 = λ r. answered-with r (syncPacket 35 31) (omega arith) (omega arith) 8 0xC0 0 no-order refl;
   case-6-rule = λ n. refl;
-  case-6-begin = λ r h. answered-with r (beginPacket 5000 5 1024 8192) (omega arith) (omega arith) 2 0 0 Nothing (rw h);
+  case-6-begin = λ r h. answered-with r (beginPacket 5000 5 1024 8192) (omega arith) (omega arith) 2 0 0 no-order (rw h);
   case-6-erased = λ r h d₀ d₁ d₂ d₃ d₄ b₀ b₁ b₂ b₃ b₄ p. five-loaded r h d₀ d₁ d₂ d₃ d₄ b₀ b₁ b₂ b₃ b₄ p .erased;
-  case-7-4 = λ r. answered-with r (beginPacket 5000 4 1024 8192) (omega arith) (omega arith) 2 0xC5 0 Nothing refl;
-  case-7-6 = λ r. answered-with r (beginPacket 5000 6 1024 8192) (omega arith) (omega arith) 2 0xC5 0 Nothing refl;
+  case-7-4 = λ r. answered-with r (beginPacket 5000 4 1024 8192) (omega arith) (omega arith) 2 0xC5 0 no-order refl;
+  case-7-6 = λ r. answered-with r (beginPacket 5000 6 1024 8192) (omega arith) (omega arith) 2 0xC5 0 no-order refl;
   case-8 = refl;
   case-9 = refl;
   case-11-frame = refl;

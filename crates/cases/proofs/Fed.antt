@@ -1,6 +1,6 @@
 -- A framed packet fed to a loader between packets: the calls before its last byte change nothing but the packet buffer, and the last one handles it.
 use mathlib.Core.Path.{_≡_, refl, ap, _∙_}
-use mathlib.Core.List.{List, [], _∷_, _++_, append-nil}
+use mathlib.Core.List.{List, [], _∷_, _++_, append-nil, Option·toList}
 use mathlib.Core.Option.{Option, none, some}
 use Prim.Native.Nat.{ℕ, _≤_}
 use native.Mathlib.Nat.{zero-add}
@@ -16,10 +16,9 @@ use Rattle.fields.specs.Pins.{attachGood}
 use Rattle.framing.specs.Frame.{END, longest, escaped, framed}
 use Rattle.framing.specs.Packets.{header}
 use Rattle.framing.specs.Line.{Step as ByteStep, lineState, silent, closed, stepOf}
-use Rattle.framing.specs.Run.{fresh, closedBy, closedPackets, stateAfter, bufferAfter}
+use Rattle.framing.specs.Run.{fresh, closedPackets, stateAfter, bufferAfter}
 use Rattle.framing.specs.declared.Line.{Line}
 use Rattle.framing.specs.declared.Phase.the-variants.{Inside}
-use Rattle.framing.specs.declared.Closing.the-variants.{Whole}
 use Rattle.framing.proofs.Unescape.{means-escaped}
 use Rattle.framing.proofs.Cut.{clean-escaped}
 use Rattle.framing.proofs.Invariant as invariant
@@ -34,12 +33,12 @@ use Rattle.loader.specs.declared.Loader.{Loader}
 use Rattle.history.proofs.Lengths.{Sound, keeps, sound-after}
 use Rattle.claims.specs.Calls.{Called, stepped, EachCall}
 use Rattle.claims.proofs.Line.{follows}
-use Rattle.cases.specs.Feeding.{Lending, begun, fed, framedAll}
+use Rattle.cases.specs.Feeding.{Lending, begun, called, fed, framedAll}
 
-fed-append : (s : Step) (xs ys : List ℕ) → fed s (xs ++ ys) ≡ fed (fed s xs) ys
+pub fed-append : (s : Step) (xs ys : List ℕ) → fed s (xs ++ ys) ≡ fed (fed s xs) ys
 unfolding fed
 fed-append s [] ys = refl
-fed-append s (b ∷ xs) ys = fed-append (step (s .loader) b (s .packet) (s .answer) (s .flash) (s .words)) xs ys
+fed-append s (b ∷ xs) ys = fed-append (called s b) xs ys
 
 -- packets framed and fed, one after the other
 abbrev pub fedAll : Step → List (List ℕ) → Step
@@ -76,7 +75,7 @@ module _ (l : Line) (c : Core) (packet answer : List ℕ) {o : Option (List ℕ)
 
   one-step : (b : ℕ) (s : ByteStep) → stepOf l b packet ≡ s
       → step (loaderOf l c) b packet answer (c .flash) (c .words)
-      ≡ afterByte (s .answer .closing) (s .answer .line) (loaderOf l c) (s .buffer) answer (c .flash) (c .words)
+      ≡ afterByte (s .closed) (s .line) (loaderOf l c) (s .buffer) answer (c .flash) (c .words)
   unfolding step
   one-step b s e = rw (unrefused, e)
 
@@ -84,29 +83,38 @@ module _ (l : Line) (c : Core) (packet answer : List ℕ) {o : Option (List ℕ)
   unfolding bufferChecks
   for-packet = leb-true _ _ (first-passed (bufferChecks lending) refl (a .buffers) .0)
 
+-- each call takes its byte and closes nothing
+unfoldable pub Takes : Step → List ℕ → Type 0
+Takes s [] = Unit {0}
+Takes s (b ∷ bs) = (called s b .told ≡ taken) × Takes (called s b) bs
+
 -- bytes that close no packet change the line state and the packet buffer, and nothing else
 abbrev Quiet : List ℕ → Type 0
 Quiet bs =
     (l : Line) (c : Core) (packet answer : List ℕ) (o : Option (List ℕ)) → Allowed l c packet answer o → closedPackets l packet bs ≡ []
-    → fed (state taken l c packet answer) bs ≡ state taken (stateAfter l packet bs) c (bufferAfter l packet bs) answer
+    → (fed (state taken l c packet answer) bs ≡ state taken (stateAfter l packet bs) c (bufferAfter l packet bs) answer)
+    × Takes (state taken l c packet answer) bs
 
 quiet-step : (bs : List ℕ) → Quiet bs → (b : ℕ) (l : Line) (c : Core) (packet answer : List ℕ) {o : Option (List ℕ)}
     → Allowed l c packet answer o → (s : ByteStep) → stepOf l b packet ≡ s → Fed packet o b s
-    → closedBy (s .answer .closing) (s .buffer) ++ closedPackets (s .answer .line) (s .buffer) bs ≡ []
-    → fed (step (loaderOf l c) b packet answer (c .flash) (c .words)) bs
-    ≡ state taken (stateAfter (s .answer .line) (s .buffer) bs) c (bufferAfter (s .answer .line) (s .buffer) bs) answer
-unfolding closedBy afterByte
+    → Option·toList (s .closed) ++ closedPackets (s .line) (s .buffer) bs ≡ []
+    → (fed (step (loaderOf l c) b packet answer (c .flash) (c .words)) bs
+    ≡ state taken (stateAfter (s .line) (s .buffer) bs) c (bufferAfter (s .line) (s .buffer) bs) answer)
+    × ((step (loaderOf l c) b packet answer (c .flash) (c .words) .told ≡ taken)
+    × Takes (step (loaderOf l c) b packet answer (c .flash) (c .words)) bs)
+unfolding Option·toList afterByte
 quiet-step bs rest b l c packet answer a s q (still l′ after o′ f k p w) e =
     let n : Allowed l′ c after answer o′ = record { buffers = rw k (a .buffers); pending = p; sound = a .sound } in
-    rw (one-step l c packet answer a b s q, f) (rest l′ c after answer o′ n (rw f at e))
+    let g = rest l′ c after answer o′ n (rw f at e) in
+    rw (one-step l c packet answer a b s q, f) (g .0, (refl, g .1))
 quiet-step bs rest b l c packet answer a s q (whole n f x y w) e =
     let g = rw f at e in let z : _≡_ {A = ℕ} 0 1 = cc in absurd (omega arith)
 quiet-step bs rest b l c packet answer a s q (broken n f x y w) e =
     let g = rw f at e in let z : _≡_ {A = ℕ} 0 1 = cc in absurd (omega arith)
 
 quiet-fed : (bs : List ℕ) → Quiet bs
-unfolding fed closedPackets stateAfter bufferAfter
-quiet-fed [] l c packet answer o a e = refl
+unfolding fed called Takes closedPackets stateAfter bufferAfter
+quiet-fed [] l c packet answer o a e = (refl, tt)
 quiet-fed (b ∷ bs) l c packet answer o a e =
     quiet-step bs (quiet-fed bs) b l c packet answer a _ refl (invariant.fed l b packet (for-packet l c packet answer a) (a .pending)) e
 
@@ -117,7 +125,7 @@ module _ (t : Told) (l : Line) (c : Core) (packet answer : List ℕ) {o : Option
   allowed-open = record { buffers = a .buffers; pending = pend-opened packet; sound = a .sound }
 
   opened : (bs : List ℕ) → fed (state t l c packet answer) (END ∷ bs) ≡ fed (state taken (lineState Inside 0) c packet answer) bs
-  unfolding fed afterByte
+  unfolding fed called afterByte
   opened bs = rw (one-step l c packet answer a END _ opens)
 
   -- the buffer with the packet in it
@@ -131,15 +139,19 @@ module _ (t : Told) (l : Line) (c : Core) (packet answer : List ℕ) {o : Option
   unfolding lay
   laid = take-at p _ (length p) refl
 
-  stored : fed (state taken (lineState Inside 0) c packet answer) (escaped p) ≡ state taken (lineState Inside (length p)) c full answer
+  stored :
+      (fed (state taken (lineState Inside 0) c packet answer) (escaped p) ≡ state taken (lineState Inside (length p)) c full answer)
+      × Takes (state taken (lineState Inside 0) c packet answer) (escaped p)
   unfolding closedPackets stateAfter bufferAfter
   stored =
       let led = rw (append-nil, zero-add) at (escaped-leads p 0 packet [] (omega arith) (for-packet l c packet answer a)) in
-      quiet-fed (escaped p) (lineState Inside 0) c packet answer (some []) allowed-open (led .closes) ∙ rw (led .state, led .after)
+      let quiet = quiet-fed (escaped p) (lineState Inside 0) c packet answer (some []) allowed-open (led .closes) in
+      (quiet .0 ∙ rw (led .state, led .after), quiet .1)
 
-  closes : stepOf (lineState Inside (length p)) END full ≡ closed (Whole (length p)) full
+  closes : stepOf (lineState Inside (length p)) END full ≡ closed (length p) (some (take (length p) full)) full
   unfolding stepOf
-  closes = rw (ne-eqb (length p) 0 (λ e. omega arith))
+  closes =
+      rw (ne-eqb (length p) 0 (λ e. omega arith), le-leb (length p) longest fits, le-leb (length p) (length full) (rw full-length (omega (arith, for-packet l c packet answer a))))
 
   allowed-full : Allowed (lineState Inside (length p)) c full answer (some (escaped p))
   allowed-full =
@@ -157,8 +169,13 @@ module _ (t : Told) (l : Line) (c : Core) (packet answer : List ℕ) {o : Option
   last-step = rw (one-step (lineState Inside (length p)) c full answer allowed-full END _ closes, laid)
 
   pub packet-fed : fed (state t l c packet answer) (framed p) ≡ after
-  unfolding framed fed
-  packet-fed = opened (escaped p ++ END ∷ []) ∙ fed-append _ (escaped p) (END ∷ []) ∙ rw stored last-step
+  unfolding framed fed called
+  packet-fed = opened (escaped p ++ END ∷ []) ∙ fed-append _ (escaped p) (END ∷ []) ∙ rw (stored .0) last-step
+
+  -- its calls before the last
+  pub packet-takes : Takes (state t l c packet answer) (END ∷ escaped p)
+  unfolding Takes called afterByte
+  packet-takes = rw (one-step l c packet answer a END _ opens) (refl, stored .1)
 
   -- in the last call every buffer keeps its length
   last-call : Called (record { loader = loaderOf (lineState Inside (length p)) c; buffer = full; flash = c .flash; words = c .words }) (record { byte = END; answer = answer })
@@ -222,3 +239,12 @@ idle-after {s} {c} b p filled fits =
       allowed = allowed-after (b .told) (b .at) c (b .buffer) (b .answer) (b .allowed) (b .opens) p filled fits;
       opens = refl;
     }
+
+-- what the calls of a framed packet tell: nothing before the last one
+pub idle-takes : {s : Step} {c : Core} → Idle s c → (p : List ℕ) → 1 ≤ length p → length p ≤ longest → Takes s (END ∷ escaped p)
+idle-takes {s} {c} b p filled fits = rw (b .is) (packet-takes (b .told) (b .at) c (b .buffer) (b .answer) (b .allowed) (b .opens) p filled fits)
+
+pub idle-told : {s : Step} {c : Core} → Idle s c → (p : List ℕ) → 1 ≤ length p → length p ≤ longest
+    → fed s (framed p) .told ≡ toldOf (length p) (handle c (header (some p)) .reply)
+idle-told {s} {c} b p filled fits =
+    ap (λ x. fed x (framed p) .told) (b .is) ∙ ap (λ x. x .told) (packet-fed (b .told) (b .at) c (b .buffer) (b .answer) (b .allowed) (b .opens) p filled fits)

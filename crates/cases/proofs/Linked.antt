@@ -20,13 +20,13 @@ use Rattle.link_state.specs.Silence.{lost, checked}
 use Rattle.link_state.specs.Sound.{onList, fitsPhase, holderGood, sound}
 use Rattle.link_state.specs.Refusals.{checks, sendChecks}
 use Rattle.link_turns.specs.Turns.{baudFrame, listens}
-use Rattle.link.specs.Answers.{done}
+use Rattle.link.specs.Answers.{done, sentBy}
 use Rattle.link.specs.Hearing.{wholeFrame, heard, received}
 use Rattle.link.specs.Step.{call, byteStep, pollStep, sendStep}
 use Rattle.link_state.specs.declared.Link.{Link}
 use Rattle.link_state.specs.declared.Phase.{Phase}
 use Rattle.link_state.specs.declared.Phase.the-variants.{Start, Baud, Open}
-use Rattle.cases.specs.LinkCalls.{receives, linkSends, Polled}
+use Rattle.cases.specs.LinkCalls.{receives, Polled}
 
 -- outside Start, a silence is what loses the link
 lost-outside : (p : Phase) (last tick : ℕ) → (p ≡ Start → ⊥) → lost p last tick ≡ silence last tick
@@ -44,8 +44,8 @@ polled l buffer last tick p = rw (p .unrefused, lost-outside (l .phase) (l .last
 -- what is sent is the frame
 pub frame-sent : (l : Link) (bytes : List ℕ) (tick : ℕ) (buffer : List ℕ)
     → first (sendChecks l (checked l tick) (length bytes) (length buffer)) ≡ 0
-    → linkSends (sendStep l bytes tick buffer) ≡ dataFrame bytes
-unfolding linkSends sendStep call done lay
+    → sentBy (sendStep l bytes tick buffer) ≡ dataFrame bytes
+unfolding sendStep call done lay
 frame-sent l bytes tick buffer h = rw h (take-at (dataFrame bytes) _ _ refl)
 
 -- no time has passed

@@ -15,10 +15,11 @@ use Rattle.link_state.specs.Clock.{elapsed}
 use Rattle.link_state.specs.Link.{fresh, inBaud, inOpen, withDead}
 use Rattle.link_state.specs.Silence.{checked}
 use Rattle.link_state.specs.Refusals.{shortestBuffer, sendChecks}
+use Rattle.link.specs.Answers.{sentBy}
 use Rattle.link.specs.Step.{pollStep, sendStep}
 use Rattle.link_state.specs.declared.Link.{Link}
 use Rattle.cases.specs.Feeding.{Lending, begun, fed, framedAll, sends}
-use Rattle.cases.specs.LinkCalls.{receives, linkSends, Polled}
+use Rattle.cases.specs.LinkCalls.{receives, Polled}
 use Rattle.cases.specs.Packets.{syncPacket, beginPacket, Block, dataPacket}
 
 -- "S 5000, n 5, b 1024, offset 8192", and its five blocks with their data
@@ -75,7 +76,7 @@ pub record Starred : Type 0 where
   pub case-12-frame : dataFrame (0x48 ∷ 0x49 ∷ []) ≡ 0x05 ∷ 0x02 ∷ 0x48 ∷ 0x49 ∷ 0x06 ∷ []
   pub case-12-sent :
       (l : Link) (tick : ℕ) (buffer : List ℕ) → first (sendChecks l (checked l tick) 2 (length buffer)) ≡ 0
-      → linkSends (sendStep l (0x48 ∷ 0x49 ∷ []) tick buffer) ≡ 0x05 ∷ 0x02 ∷ 0x48 ∷ 0x49 ∷ 0x06 ∷ []
+      → sentBy (sendStep l (0x48 ∷ 0x49 ∷ []) tick buffer) ≡ 0x05 ∷ 0x02 ∷ 0x48 ∷ 0x49 ∷ 0x06 ∷ []
   -- 14. "Silence: tick FFFFFFFF then 000000F8 hex is 249 ms, alive": all stays but dead time, which is over
   pub case-14-249 : elapsed 0xFFFFFFFF 0x000000F8 ≡ 249
   pub case-14-alive :

@@ -28,10 +28,14 @@ begun r =
       words = r .words;
     }
 
--- what the last of the calls comes to. `step` is the definition that the contract of `feed` cites.
+-- the next call. `step` is the definition that the contract of `feed` cites.
+unfoldable pub called : Step → ℕ → Step
+called s b = step (s .loader) b (s .packet) (s .answer) (s .flash) (s .words)
+
+-- what the last of the calls comes to
 unfoldable pub fed : Step → List ℕ → Step
 fed s [] = s
-fed s (b ∷ bs) = fed (step (s .loader) b (s .packet) (s .answer) (s .flash) (s .words)) bs
+fed s (b ∷ bs) = fed (called s b) bs
 
 -- packets framed, one after the other
 unfoldable pub framedAll : List (List ℕ) → List ℕ

@@ -2,3 +2,5 @@ pub mod Feeding
 pub mod LinkCalls
 pub mod Packets
 pub mod Cases
+pub mod Listing
+pub mod Example

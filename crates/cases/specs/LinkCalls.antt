@@ -2,10 +2,9 @@
 use mathlib.Core.Path.{_≡_}
 use mathlib.Core.List.{List, [], _∷_}
 use Prim.Native.Nat.{ℕ}
-use lib.ListN.{length, take}
+use lib.ListN.{length}
 use Rattle.lists.specs.Checks.{first}
 use Rattle.link_state.specs.Refusals.{checks}
-use Rattle.link.specs.Answers.{Step}
 use Rattle.link.specs.Step.{byteStep}
 use Rattle.link_state.specs.declared.Link.{Link}
 use Rattle.link_state.specs.declared.Phase.the-variants.{Start}
@@ -14,10 +13,6 @@ use Rattle.link_state.specs.declared.Phase.the-variants.{Start}
 unfoldable pub receives : Link → ℕ → List ℕ → List ℕ → Link
 receives l tick buffer [] = l
 receives l tick buffer (b ∷ bs) = receives (byteStep l b tick buffer .link) tick buffer bs
-
--- the bytes that a call sends
-unfoldable pub linkSends : Step → List ℕ
-linkSends s = take (s .count) (s .buffer)
 
 -- a link outside Start that was last active at a tick, and a buffer with which a poll is not refused
 pub record Polled (l : Link) (buffer : List ℕ) (last : ℕ) : Type 0 where

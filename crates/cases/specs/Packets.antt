@@ -18,6 +18,10 @@ beginPacket size count block offset =
     0x00 ∷ 0x02 ∷ 0x10 ∷ 0x00 ∷ 0x00 ∷ 0x00 ∷ 0x00 ∷ 0x00
     ∷ (bytesOf size ++ (bytesOf count ++ (bytesOf block ++ bytesOf offset)))
 
+-- FLASH_END: "one word, 0 reboot or 1 stay"
+abbrev pub endPacket : ℕ → List ℕ
+endPacket word = 0x00 ∷ 0x04 ∷ 0x04 ∷ 0x00 ∷ 0x00 ∷ 0x00 ∷ 0x00 ∷ 0x00 ∷ bytesOf word
+
 -- the data of a block: 1,024 bytes
 pub record Block (bytes : List ℕ) : Type 0 where
   pub full : length bytes ≡ 1024

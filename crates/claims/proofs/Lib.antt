@@ -1,3 +1,6 @@
+pub mod Values
 pub mod Line
 pub mod CallHistory
 pub mod Demand3
+pub mod Arrives
+pub mod WorkedLoad

@@ -12,8 +12,7 @@ use Rattle.lists.proofs.Laws.{length-lay}
 use Rattle.lists.proofs.Tests.{absurd-test, Passed, first-passed, first-append}
 use Rattle.framing.specs.Frame.{longest, framed}
 use Rattle.framing.specs.Packets.{Packet, header}
-use Rattle.framing.specs.Line.{Step as ByteStep, lineState, silent, stepOf}
-use Rattle.framing.specs.Run.{Closed}
+use Rattle.framing.specs.Line.{Closed, Step as ByteStep, lineState, silent, stepOf}
 use Rattle.framing.specs.declared.Line.{Line}
 use Rattle.framing.specs.declared.Phase.the-variants.{Inside}
 use Rattle.framing.proofs.Cut.{todo}
@@ -28,8 +27,9 @@ use Rattle.loader.specs.Step as loader
 use Rattle.loader.specs.Step.{Step, refused, taken, toldOf, refusing, answerBuffer, afterByte, bufferLengths}
 use Rattle.history.specs.Theorems.{Keeps}
 use Rattle.history.proofs.Lengths.{Sound, keeps, sound-after}
-use Rattle.claims.specs.Calls.{Machine, Call, stepped, next, passes, lineBytes, ClosingCall, closingCall, closingCalls, Called, EachCall}
+use Rattle.claims.specs.Calls.{Machine, Call, stepped, next, passes, lineBytes, ClosingCall, closingCall, closingCalls, Sent, Called, EachCall}
 use Rattle.claims.specs.CallHistory.{coreAt, closingAs}
+use Rattle.claims.proofs.Values.{Valued, valued}
 
 -- the packet that a closed stretch is
 abbrev pub packetOf : Closed → Packet
@@ -58,7 +58,7 @@ told-never n (replied a b c d) k e = let z : _≡_ {A = ℕ} 0 1 = cc in omega a
 taken-never : (k : ℕ) → taken ≡ refused k → ⊥
 taken-never k e = let z : _≡_ {A = ℕ} 0 1 = cc in omega arith
 
-closes-packet-one : (n : ℕ) (r : Reply) (f : List ℕ) → closingCall (toldOf n r) f ≡ record { told = toldOf n r; flash = f } ∷ []
+pub closes-packet-one : (n : ℕ) (r : Reply) (f : List ℕ) → closingCall (toldOf n r) f ≡ record { told = toldOf n r; flash = f } ∷ []
 unfolding toldOf closingCall
 closes-packet-one n nothing f = refl
 closes-packet-one n (replied a b c d) f = refl
@@ -68,48 +68,59 @@ unfolding answerBuffer
 answer-buffer-length nothing buffer h = refl
 answer-buffer-length (replied c e v note) buffer h = length-lay buffer 0 (framed (answerBytes c e v)) (omega (arith, answer-most c e v))
 
+sent-by : (n : ℕ) (r : Reply) (buffer : List ℕ) → Valued r → Sent (toldOf n r) buffer (answerBuffer r buffer)
+unfolding Sent toldOf answerBuffer
+sent-by n nothing buffer z = refl
+sent-by n (replied c e v note) buffer z = record { value = v; zero = z; counted = refl; front = refl }
+
 module _ (m : Machine) (c : Call) where
-  abbrev buffers : BufferLengths
+  abbrev pub buffers : BufferLengths
   buffers = bufferLengths (m .buffer) (c .answer) (m .flash) (m .words)
 
-  refusal-is : refusal (m .loader) buffers ≡ cond (passes m c) (cond (recordGood (lengthsOf buffers) (m .loader)) 0 5) (first (bufferChecks buffers))
+  pub refusal-is : refusal (m .loader) buffers ≡ cond (passes m c) (cond (recordGood (lengthsOf buffers) (m .loader)) 0 5) (first (bufferChecks buffers))
   unfolding refusal passes bufferChecks first
   refusal-is = first-append (bufferChecks buffers) (recordGood (lengthsOf buffers) (m .loader) orElse 5 ∷ []) refl
 
   -- refusals 1 to 4 let the call pass: the packet buffer holds the longest packet, and the answer buffer any answer
-  record LongEnough : Type 0 where
-    packet : longest ≤ length (m .buffer)
-    answer : longestAnswer ≤ length (c .answer)
+  pub record LongEnough : Type 0 where
+    pub packet : longest ≤ length (m .buffer)
+    pub answer : longestAnswer ≤ length (c .answer)
 
-  long-enough : passes m c ≡ true → LongEnough
+  pub long-enough : passes m c ≡ true → LongEnough
   unfolding passes bufferChecks
   long-enough h =
       let t : Passed (bufferChecks buffers) = first-passed (bufferChecks buffers) refl (eqb-true _ 0 h) in
       record { packet = leb-true _ _ (t .0); answer = leb-true _ _ (t .1 .0) }
 
+  -- the call's step is the loader's
+  step-is : stepped m c ≡ loader.step (m .loader) (c .byte) (m .buffer) (c .answer) (m .flash) (m .words)
+  unfolding stepped
+  step-is = refl
+
   step-stops : passes m c ≡ false
       → stepped m c ≡ refusing (first (bufferChecks buffers)) (m .loader) (m .buffer) (c .answer) (m .flash) (m .words)
-  unfolding stepped loader.step passes
-  step-stops h = rw (refusal-is, h, h)
+  unfolding loader.step passes
+  step-stops h = rw (step-is, refusal-is, h, h)
 
   -- where the record is sound, refusal 5 is not given
   record-good : {o : Option (List ℕ)} → Ready m o → recordGood (lengthsOf buffers) (m .loader) ≡ true
   unfolding recordGood
   record-good r = rw (le-leb (m .loader .line .held) longest (pend-held (r .pending)), r .sound .session) (r .sound .attach)
 
-  step-passes : {o : Option (List ℕ)} → Ready m o → passes m c ≡ true → (s : ByteStep)
+  pub step-passes : {o : Option (List ℕ)} → Ready m o → passes m c ≡ true → (s : ByteStep)
       → stepOf (m .loader .line) (c .byte) (m .buffer) ≡ s
-      → stepped m c ≡ afterByte (s .answer .closing) (s .answer .line) (m .loader) (s .buffer) (c .answer) (m .flash) (m .words)
-  unfolding stepped loader.step
-  step-passes r h s e = rw (refusal-is, h, record-good r, e)
+      → stepped m c ≡ afterByte (s .closed) (s .line) (m .loader) (s .buffer) (c .answer) (m .flash) (m .words)
+  unfolding loader.step
+  step-passes r h s e = rw (step-is, refusal-is, h, record-good r, e)
 
   -- what is claimed of the call, from what its step is
   called-as : (s : Step) → stepped m c ≡ s → (passes m c ≡ true → (n : ℕ) → s .told ≡ refused n → ⊥)
+      → Sent (s .told) (c .answer) (s .answer)
       → length (s .packet) ≡ length (m .buffer)
       → length (s .answer) ≡ length (c .answer) → length (s .flash) ≡ length (m .flash) → length (s .words) ≡ length (m .words)
       → Called m c
-  called-as s e t p a f w =
-      record { takes = rw e t; packet-length = rw e p; answer-length = rw e a; flash-length = rw e f; words-length = rw e w }
+  called-as s e t u p a f w =
+      record { takes = rw e t; sends = rw e u; packet-length = rw e p; answer-length = rw e a; flash-length = rw e f; words-length = rw e w }
 
 module _ (m : Machine) (c : Call) (cs : List Call) (o : Option (List ℕ)) (r : Ready m o)
     (rest : (n : Machine) (o′ : Option (List ℕ)) → Ready n o′ → Follows n o′ cs) where
@@ -120,13 +131,13 @@ module _ (m : Machine) (c : Call) (cs : List Call) (o : Option (List ℕ)) (r : 
 
   -- a refused call
   stopped : passes m c ≡ false → Follows m o (c ∷ cs)
-  unfolding closingCalls EachCall next closingCall refusing
+  unfolding closingCalls EachCall next closingCall refusing Sent
   stopped h =
       let e = step-stops m c h in
       let f = rest m o r in
       record {
         closes = rw (line-stops h, e) (f .closes);
-        each = rw e (called-as m c _ e (λ t. absurd-test (sym h ∙ t)) refl refl refl refl, f .each);
+        each = rw e (called-as m c _ e (λ t. absurd-test (sym h ∙ t)) refl refl refl refl refl, f .each);
       }
 
   -- the machine after a byte that closes nothing
@@ -144,13 +155,13 @@ module _ (m : Machine) (c : Call) (cs : List Call) (o : Option (List ℕ)) (r : 
       → stepOf (m .loader .line) (c .byte) (m .buffer) ≡ silent l after
       → length after ≡ length (m .buffer) → Pend after l o′ → ((bs : List ℕ) → todo o (c .byte ∷ bs) ≡ todo o′ bs)
       → Follows m o (c ∷ cs)
-  unfolding closingCalls lineBytes EachCall next closingCall afterByte
+  unfolding closingCalls lineBytes EachCall next closingCall afterByte Sent
   silently l after o′ h q k p w =
       let e = step-passes m c r h (silent l after) q in
       let f = rest (opened l after) o′ (record { pending = p; sound = r .sound }) in
       record {
         closes = rw (e, h, w (lineBytes (opened l after) cs)) (f .closes);
-        each = rw e (called-as m c _ e (λ _. taken-never) k refl refl refl, f .each);
+        each = rw e (called-as m c _ e (λ _. taken-never) refl k refl refl refl, f .each);
       }
 
   -- the machine after a byte that closes the packet d
@@ -175,7 +186,7 @@ module _ (m : Machine) (c : Call) (cs : List Call) (o : Option (List ℕ)) (r : 
       record {
         closes = rw (e, h, closes-packet-one, w (lineBytes (closed d) cs), f .closes);
         each = rw e (
-          called-as m c _ e (λ _. told-never _ _) refl (answer-buffer-length _ (c .answer) (long-enough m c h .answer))
+          called-as m c _ e (λ _. told-never _ _) (sent-by _ _ (c .answer) (valued (coreAt m) (packetOf d))) refl (answer-buffer-length _ (c .answer) (long-enough m c h .answer))
               (ap (λ l. l .flash) (k .same-lengths)) (ap (λ l. l .words) (k .same-lengths)),
           f .each,
         );

@@ -5,9 +5,11 @@ use mathlib.Core.Bool.{Bool, true, false, cond, _&&_}
 use Prim.Native.Nat.{ℕ}
 use lib.Dec.{eqb}
 use lib.ListN.{length, getD}
-use Rattle.begins.specs.declared.Lengths.{Lengths}
 use Rattle.lists.specs.Checks.{first}
-use Rattle.commands.specs.Numbers.{FLASH-END}
+use Rattle.lists.specs.Lay.{lay}
+use Rattle.framing.specs.Frame.{framed}
+use Rattle.commands.specs.Numbers.{FLASH-END, READ-REG}
+use Rattle.answers.specs.Answer.{answerWith}
 use Rattle.loader.specs.Refusals.{bufferChecks}
 use Rattle.loader.specs.Step as loader
 use Rattle.loader.specs.Step.{Step, Told, refused, taken, dropped, answered, freshLoader, bufferLengths}
@@ -41,10 +43,6 @@ next m c =
       flash = stepped m c .flash;
       words = stepped m c .words;
     }
-
--- the lengths that the BEGIN rules speak of
-abbrev pub lengths : Machine → Lengths
-lengths m = record { flash = length (m .flash); words = length (m .words) }
 
 -- refusals 1 to 4, as they then stand, let the call pass
 unfoldable pub passes : Machine → Call → Bool
@@ -82,9 +80,25 @@ endsWell taken = false
 endsWell (dropped n) = false
 endsWell (answered n c s e sent note) = eqb c FLASH-END && (eqb s 0 && eqb e 0)
 
--- what is claimed of one call: it takes its byte where refusals 1 to 4 let it pass, and every buffer keeps its length
+-- the answer buffer where a command was answered: the answer with the command, status and error told, framed at its front, and its length told
+pub record AnswerSent (command status error sent : ℕ) (before after : List ℕ) : Type 0 where
+  pub value : ℕ
+  -- "value (4 bytes, zero but for a good READ_REG)"
+  pub zero : (eqb command READ-REG && eqb error 0) ≡ false → value ≡ 0
+  pub counted : sent ≡ length (framed (answerWith command value (status ∷ error ∷ [])))
+  pub front : after ≡ lay before 0 (framed (answerWith command value (status ∷ error ∷ [])))
+
+-- "On both lines what is sent, framed, fills the front of answer room; the rest, or all of it without an answer, stays.": what is told is what is sent
+unfoldable pub Sent : Told → List ℕ → List ℕ → Type 0
+Sent (refused n) before after = after ≡ before
+Sent taken before after = after ≡ before
+Sent (dropped n) before after = after ≡ before
+Sent (answered n c s e sent note) before after = AnswerSent c s e sent before after
+
+-- what is claimed of one call: it takes its byte where refusals 1 to 4 let it pass, it sends what it tells, and every buffer keeps its length
 pub record Called (m : Machine) (c : Call) : Type 0 where
   pub takes : passes m c ≡ true → (n : ℕ) → stepped m c .told ≡ refused n → ⊥
+  pub sends : Sent (stepped m c .told) (c .answer) (stepped m c .answer)
   pub packet-length : length (stepped m c .packet) ≡ length (m .buffer)
   pub answer-length : length (stepped m c .answer) ≡ length (c .answer)
   pub flash-length : length (stepped m c .flash) ≡ length (m .flash)

@@ -9,7 +9,7 @@ use Rattle.framing.specs.Packets.{Packet, packets}
 use Rattle.begins.specs.declared.Lengths.{Lengths}
 use Rattle.history.specs.Grammar.{Choice, Fits, packet, begins}
 use Rattle.history.specs.Loaded.{image, Loaded}
-use Rattle.claims.specs.Calls.{Call, start, lengths, lineBytes, ClosingCall, closingCalls, closingAt, endsWell, EachCall}
+use Rattle.claims.specs.Calls.{Call, start, lineBytes, ClosingCall, closingCalls, closingAt, endsWell, EachCall}
 
 -- ps: the packets of the line; hs: the calls that closed one; l: the lengths lent.
 pub record Grammatical (l : Lengths) (ps : List Packet) (hs : List ClosingCall) : Type 0 where
@@ -26,7 +26,7 @@ pub record Grammatical (l : Lengths) (ps : List Packet) (hs : List ClosingCall) 
       → Loaded (begins (packet ps (c .begin))) (image ps (c .blocks)) (closingAt hs (c .begin) .flash) (closingAt hs i .flash)
 
 pub record Holds (buffer flash words : List ℕ) (cs : List Call) : Type 0 where
-  -- "A call that refusals 1 to 4, as they then stand, let pass takes its byte"; the buffers keep their lengths
+  -- "A call that refusals 1 to 4, as they then stand, let pass takes its byte"; what it tells it sends; the buffers keep their lengths
   pub each-call : EachCall (start buffer flash words) cs
   -- in time: after every number of calls, as many packets were closed as the line then has
   pub in-time :
@@ -35,7 +35,7 @@ pub record Holds (buffer flash words : List ℕ) (cs : List Call) : Type 0 where
       ≡ length (packets (lineBytes (start buffer flash words) (take n cs)))
   -- the line's packets, and the calls that closed them
   pub grammatical :
-      Grammatical (lengths (start buffer flash words)) (packets (lineBytes (start buffer flash words) cs))
+      Grammatical (record { flash = length flash; words = length words }) (packets (lineBytes (start buffer flash words) cs))
       (closingCalls (start buffer flash words) cs)
 
 -- "Start with a fresh record and any flash, memory and packet room, of any length. Take any list of byte calls, refused ones included"

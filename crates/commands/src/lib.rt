@@ -14,11 +14,6 @@ use fields::THIRD_WORD;
 pub use begins::Begin;
 pub use begins::Lengths;
 pub use begins::MEMORY_START;
-pub use begins::begin_of;
-pub use begins::flash_good;
-pub use begins::memory_good;
-pub use begins::reach;
-pub use begins::round_up;
 
 // ---- the commands by number
 

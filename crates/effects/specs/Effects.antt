@@ -16,23 +16,22 @@ use Rattle.sessions.specs.declared.Session.the-variants.{Closed, Flash, Memory}
 use Rattle.blocks.specs.Flash.{flashBlock}
 use Rattle.blocks.specs.Memory.{wordsBlock}
 use Rattle.effects.specs.Core.{Core, withSession, withAttach, withFlash, withWords}
-use Rattle.effects.specs.declared.Note.{Note}
-use Rattle.effects.specs.declared.Note.the-variants.{Nothing, Reboot, Stay, Jump}
+use Rattle.effects.specs.Notes.{Order, no-order, end-word, end-jump}
 
 pub record Effect : Type 0 where
   pub core : Core
   pub value : ℕ
-  pub note : Note
+  pub order : Order
 
 -- "value (4 bytes, zero but for a good READ_REG)": a command that tells nothing
 abbrev pub leaves : Core → Effect
-leaves c = record { core = c; value = 0; note = Nothing }
+leaves c = record { core = c; value = 0; order = no-order }
 
 abbrev pub reads : Core → ℕ → Effect
-reads c v = record { core = c; value = v; note = Nothing }
+reads c v = record { core = c; value = v; order = no-order }
 
-abbrev pub tells : Core → Note → Effect
-tells c note = record { core = c; value = 0; note = note }
+abbrev pub tells : Core → Order → Effect
+tells c order = record { core = c; value = 0; order = order }
 
 -- the open session's next block is accepted
 abbrev pub accepts : Core → Core
@@ -48,9 +47,11 @@ effect flash-data c p =
 effect memory-data c p =
     leaves (withWords (accepts c) (wordsBlock (announced (c .session)) (accepted (c .session)) (payload p) (c .words)))
 -- "one word, 0 reboot or 1 stay, told to the caller. Closes the session."
-effect flash-end c p = tells (withSession c Closed) (cond (eqb (word p FIRST-WORD) 0) Reboot Stay)
+effect flash-end c p = tells (withSession c Closed) (end-word (word p FIRST-WORD))
 -- "0 jumps, 1 stays": where it stays, the entry is not told
-effect memory-end c p = tells (withSession c Closed) (cond (eqb (word p FIRST-WORD) 0) (Jump (word p SECOND-WORD)) Stay)
+effect memory-end c p =
+    tells (withSession c Closed)
+    (cond (eqb (word p FIRST-WORD) 0) (end-jump (word p FIRST-WORD) (word p SECOND-WORD)) (end-word (word p FIRST-WORD)))
 effect sync c p = leaves c
 -- "Bits under the mask come from the value, the others stay."
 effect write-reg c p =

@@ -8,15 +8,14 @@ use Rattle.framing.specs.Packets.{Packet, dropped, read}
 use Rattle.commands.specs.Header.{command}
 use Rattle.sessions.specs.Errors.{kind, errorOf}
 use Rattle.effects.specs.Core.{Core, lengths, soundOnly}
+use Rattle.effects.specs.Notes.{Order, no-order, noted}
 use Rattle.effects.specs.Effects.{effect}
 use Rattle.effects.specs.declared.Done.{Done}
-use Rattle.effects.specs.declared.Note.{Note}
-use Rattle.effects.specs.declared.Note.the-variants.{Nothing}
 
 -- what a packet is answered with: nothing, or its command with an error, a value, and what the caller is told
 pub data Reply : Type 0 where
   nothing : Reply
-  replied : (command error value : ℕ) → Note → Reply
+  replied : (command error value : ℕ) → Order → Reply
 
 pub record Handled : Type 0 where
   pub reply : Reply
@@ -26,13 +25,13 @@ pub record Handled : Type 0 where
 unfoldable pub carriedOut : Core → List ℕ → Handled
 carriedOut c p =
     record {
-      reply = replied (command p) 0 (effect (kind (command p)) c p .value) (effect (kind (command p)) c p .note);
+      reply = replied (command p) 0 (effect (kind (command p)) c p .value) (effect (kind (command p)) c p .order);
       core = effect (kind (command p)) c p .core;
     }
 
 -- a command that failed
 unfoldable pub failed : Core → List ℕ → ℕ → Handled
-failed c p error = record { reply = replied (command p) error 0 Nothing; core = c }
+failed c p error = record { reply = replied (command p) error 0 no-order; core = c }
 
 unfoldable pub handle : Core → Packet → Handled
 handle c dropped = record { reply = nothing; core = c }
@@ -50,7 +49,7 @@ obeyed c p =
 
 -- the command's answer and all that it leaves are those of h
 pub record Does (h : Handled) (number : ℕ) (r : Done) (flash words : List ℕ) : Type 0 where
-  pub reply : h .reply ≡ replied number (r .error) (r .value) (r .note)
+  pub reply : h .reply ≡ replied number (r .error) (r .value) (noted (r .note))
   pub session : r .session ≡ h .core .session
   pub attach : r .attach ≡ h .core .attach
   pub in-flash : flash ≡ h .core .flash

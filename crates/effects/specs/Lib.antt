@@ -1,3 +1,4 @@
 pub mod Core
+pub mod Notes
 pub mod Effects
 pub mod Handle

@@ -1,6 +1,4 @@
 // A read packet's command: its error, or what it does.
-mod notes;
-
 use begins::Lengths;
 use commands::FLASH_BEGIN;
 use commands::FLASH_DATA;
@@ -15,12 +13,11 @@ use commands::WRITE_REG;
 use fields::FIRST_WORD;
 use fields::SECOND_WORD;
 use fields::THIRD_WORD;
-use notes::flash_note;
-use notes::memory_note;
 use sessions::Session;
 ghost use mathlib.Core.Path.{_≡_};
-ghost use mathlib.Core.Bool.{true};
-ghost use Prim.Native.Nat.{_+_, _^_, _<_};
+ghost use mathlib.Core.Bool.{true, cond};
+ghost use Prim.Native.Nat.{_+_, _^_, _≤_, _<_};
+ghost use lib.Dec.{eqb};
 ghost use lib.ListN.{length, getD, set};
 ghost use Rattle.fields.specs.Places.{FIRST-WORD, SECOND-WORD, THIRD-WORD};
 ghost use Rattle.fields.specs.Words.{word};
@@ -29,13 +26,18 @@ ghost use Rattle.commands.specs.Header.{command};
 ghost use Rattle.commands.specs.Parameters.{place};
 ghost use Rattle.sessions.specs.Session.{accepted, advanced, sessionGood};
 ghost use Rattle.sessions.specs.Errors.{errorOf};
+ghost use Rattle.effects.specs.Notes.{noted, end-word, end-jump};
 ghost use Rattle.effects.specs.Handle.{carriedOut, obeyed, Does};
 
-// What END asks of the caller: reboot, stay in the loader, or jump to an entry.
+// What END asks of the caller, to be done once the answer has been sent.
 pub enum Note {
+    // nothing: no END, or one that failed
     Nothing,
+    // reboot
     Reboot,
+    // stay in the loader: go on feeding bytes
     Stay,
+    // jump to this address
     Jump(u32),
 }
 
@@ -110,6 +112,30 @@ fn read_register(packet: &[u8], words: &[u32]) -> u32
 {
     let at = commands::place_of(fields::word_at(packet, FIRST_WORD) as u64);
     words[at]
+}
+
+// FLASH_END: 0 reboots, 1 stays.
+fn flash_note(packet: &[u8]) -> Note
+    requires { ⌜ word (now packet) FIRST-WORD ≤ 1 ⌝ }
+    ensures { λ r. ⌜ noted r ≡ end-word (word (now (packet .entry)) FIRST-WORD) ⌝ }
+{
+    if fields::word_at(packet, FIRST_WORD) == 0 {
+        return Note::Reboot;
+    }
+    Note::Stay
+}
+
+// MEM_END: 0 jumps to the entry, 1 stays.
+fn memory_note(packet: &[u8]) -> Note
+    requires { ⌜ word (now packet) FIRST-WORD ≤ 1 ⌝ }
+    ensures { λ r. ⌜ noted r ≡ cond (eqb (word (now (packet .entry)) FIRST-WORD) 0)
+        (end-jump (word (now (packet .entry)) FIRST-WORD) (word (now (packet .entry)) SECOND-WORD))
+        (end-word (word (now (packet .entry)) FIRST-WORD)) ⌝ }
+{
+    if fields::word_at(packet, FIRST_WORD) == 0 {
+        return Note::Jump(fields::word_at(packet, SECOND_WORD));
+    }
+    Note::Stay
 }
 
 // A command whose error is 0, carried out.

@@ -42,7 +42,7 @@ block-length g k (read p) h = let b = block-parts g k p h in payload-length p (g
 
 image-more : (ps : List Packet) (js : List ℕ) (i : ℕ) → image ps (js ++ i ∷ []) ≡ image ps js ++ carries (packet ps i)
 unfolding image
-image-more ps [] i = append-nil _
+image-more ps [] i = cc (append-nil (carries (packet ps i)))
 image-more ps (j ∷ js) i = rw (image-more ps js i) (sym (append-assoc (carries (packet ps j)) (image ps js) (carries (packet ps i))))
 
 -- the core after the first i packets

@@ -5,3 +5,4 @@ pub mod Flash
 pub mod Lengths
 pub mod Agreement
 pub mod Theorems
+pub mod Witness

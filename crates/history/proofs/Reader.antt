@@ -161,7 +161,7 @@ module _ (l : Lengths) (ps : List Packet) where
       go x lo hi true q = b .only x lo (ltb-true x i q)
       go x lo hi false q = let ge : i ≤ x = ltb-false x i q in let z : x ≡ i = omega arith in rw z h
 
-  none-yet : (filler : Packet → Bool) (i : ℕ) → Between filler ps i (suc i)
+  pub none-yet : (filler : Packet → Bool) (i : ℕ) → Between filler ps i (suc i)
   none-yet filler i = record { order = omega arith; only = λ x lo hi. absurd (omega arith) }
 
   -- every chain that goes on after the place `from` with block k is the end of a whole one, which has the blocks js before it

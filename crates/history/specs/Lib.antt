@@ -2,3 +2,4 @@ pub mod Grammar
 pub mod Loaded
 pub mod History
 pub mod Theorems
+pub mod Witness

@@ -2,7 +2,7 @@
 use mathlib.Core.List.{List, []}
 use mathlib.Core.Bool.{Bool, false}
 use Prim.Native.Nat.{ℕ}
-use lib.ListN.{length}
+use lib.ListN.{length, take}
 use Rattle.lists.specs.Lay.{lay}
 use Rattle.link_state.specs.declared.Link.{Link}
 use Rattle.link_turns.specs.Moves.{Saying, refused, said, padded, Move}
@@ -26,6 +26,10 @@ came l told buffer =
 unfoldable pub done : Bool → Move → List ℕ → Step
 done lost m buffer =
     record { link = m .link; saying = m .saying; lost = lost; count = length (m .sends); bytes = m .hands; buffer = lay buffer 0 (m .sends) }
+
+-- what a call sends: so many bytes at the front of the buffer
+abbrev pub sentBy : Step → List ℕ
+sentBy s = take (s .count) (s .buffer)
 
 -- a refused call hands the record back as it came, and writes nothing
 unfoldable pub refusing : ℕ → Link → List ℕ → Step

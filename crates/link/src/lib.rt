@@ -6,8 +6,7 @@ pub use link_state::Phase;
 pub use link_state::new;
 use link_state::refusals;
 pub use link_turns::Event;
-pub use link_turns::Reply;
-pub use link_turns::Turn;
+use link_turns::Turn;
 ghost use mathlib.Core.Path.{_≡_};
 ghost use mathlib.Core.List.{List};
 ghost use mathlib.Core.Bool.{true};
@@ -22,17 +21,21 @@ ghost use Rattle.link.specs.Answers.{came, done, refusing};
 ghost use Rattle.link.specs.Hearing.{wholeFrame, heard, received};
 ghost use Rattle.link.specs.Step.{pullStep, byteStep, pollStep, sendStep};
 
-// What a call tells: an event, whether the link was lost to silence in this call, how many bytes stand at the front of the
-// answer buffer to be sent, and the bytes of data that are handed over.
+// What a call tells, in the order in which the caller acts on it.
 pub struct Told {
-    pub event: Event,
+    // The link was lost to silence before this call did anything else: the line goes back to 9600, and outstanding data is gone.
     pub lost: bool,
+    // So many bytes, the first of the answer buffer, are to be sent; 0 where there is nothing to send.
     pub sent: usize,
+    // What came of the call; each case says what it asks for.
+    pub event: Event,
+    // The data that is handed over, zeros behind it.
     pub bytes: Payload,
 }
 
 // What a call hands back.
 pub struct Next {
+    // The record to hand to the next call; the one handed over is of no more use.
     pub link: Link,
     pub told: Told,
 }
@@ -140,9 +143,11 @@ fn refuse(link: Link, number: u8) -> Next
     }
 }
 
-// The calls
+// The calls. Each is handed the record and the millisecond count, and is lent an answer buffer of at least 67 bytes, of which those
+// past what is to be sent stay as they were.
 
-// The line was pulled.
+// The line was pulled. In Start, and where the link was lost to silence, the answer is a heartbeat, to be sent at 9600; else there is
+// none.
 pub fn pull(link: Link, tick: u32, buffer: &mut [u8]) -> Next
     ensures { λ r. ⌜ came (r .link) (r .told) (now (buffer .exit)) ≡ pullStep link tick (now (buffer .entry)) ⌝ }
 {
@@ -159,7 +164,7 @@ pub fn pull(link: Link, tick: u32, buffer: &mut [u8]) -> Next
     refuse(link, number)
 }
 
-// A byte was received.
+// A byte was received, at this tick: to be called for each byte, in their order.
 pub fn byte(link: Link, byte: u8, tick: u32, buffer: &mut [u8]) -> Next
     ensures { λ r. ⌜ came (r .link) (r .told) (now (buffer .exit)) ≡ byteStep link byte tick (now (buffer .entry)) ⌝ }
 {
@@ -176,7 +181,7 @@ pub fn byte(link: Link, byte: u8, tick: u32, buffer: &mut [u8]) -> Next
     refuse(link, number)
 }
 
-// Time has passed.
+// Time has passed. Silence is found by a call only: where no byte comes, this is to be called, well within each 250 ms.
 pub fn poll(link: Link, tick: u32, buffer: &mut [u8]) -> Next
     ensures { λ r. ⌜ came (r .link) (r .told) (now (buffer .exit)) ≡ pollStep link tick (now (buffer .entry)) ⌝ }
 {
@@ -193,7 +198,8 @@ pub fn poll(link: Link, tick: u32, buffer: &mut [u8]) -> Next
     refuse(link, number)
 }
 
-// Data is to be sent.
+// Data is to be sent, at most 64 bytes; it is outstanding until an event says `Confirmed` or `Failed`, or until the link is lost or
+// an error is detected. A send that finds the link silent is refused with 10, and the next call of another kind tells the loss.
 pub fn send(link: Link, bytes: &[u8], tick: u32, buffer: &mut [u8]) -> Next
     ensures { λ r. ⌜ came (r .link) (r .told) (now (buffer .exit)) ≡ sendStep link (now (bytes .entry)) tick (now (buffer .entry)) ⌝ }
 {

@@ -1,3 +1,12 @@
-pub mod Sound
+pub mod Apart
 pub mod Frames
+pub mod Reading
+pub mod Own
+pub mod Ways
+pub mod Sound
+pub mod Outcomes
+pub mod Refusals
+pub mod Errors
+pub mod Failures
 pub mod Decides
+pub mod Tells

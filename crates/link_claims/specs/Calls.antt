@@ -12,6 +12,18 @@ pub data Call : Type 0 where
   poll : ℕ → List ℕ → Call
   send : List ℕ → ℕ → List ℕ → Call
 
+abbrev pub tickOf : Call → ℕ
+tickOf (pull tick buffer) = tick
+tickOf (byte b tick buffer) = tick
+tickOf (poll tick buffer) = tick
+tickOf (send bytes tick buffer) = tick
+
+abbrev pub bufferOf : Call → List ℕ
+bufferOf (pull tick buffer) = buffer
+bufferOf (byte b tick buffer) = buffer
+bufferOf (poll tick buffer) = buffer
+bufferOf (send bytes tick buffer) = buffer
+
 unfoldable pub step : Link → Call → Step
 step l (pull tick buffer) = pullStep l tick buffer
 step l (byte b tick buffer) = byteStep l b tick buffer

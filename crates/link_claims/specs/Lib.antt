@@ -1,4 +1,10 @@
-pub mod Calls
-pub mod Sound
 pub mod Frames
+pub mod Reading
+pub mod Own
+pub mod Calls
+pub mod Refusals
+pub mod Errors
+pub mod Failures
+pub mod Sound
 pub mod Decides
+pub mod Tells

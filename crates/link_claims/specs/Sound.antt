@@ -1,10 +1,25 @@
--- A link that starts fresh is never refused with 5: it has no record that the protocol does not have.
+-- The calls make no record that the protocol does not have.
 use mathlib.Core.Path.{_≡_}
 use mathlib.Core.List.{List}
+use mathlib.Core.Bool.{true}
+use lib.ListN.{length}
+use Rattle.link_frames.specs.Frames.{mostContents}
 use Rattle.link_state.specs.Link.{fresh}
+use Rattle.link_state.specs.Sound.{sound}
+use Rattle.link_state.specs.declared.Link.{Link}
 use Rattle.link_turns.specs.Moves.{refused}
 use Rattle.link_claims.specs.Calls.{Call, step, after}
 
--- whatever the calls, their ticks and their buffers, the next call does not refuse the record with 5
+-- a link that starts fresh is never refused with 5: whatever the calls, their ticks and their buffers, the next call does not refuse the record so
 abbrev pub NeverRefused : Type 0
 NeverRefused = (calls : List Call) (next : Call) → step (after fresh calls) next .saying ≡ refused 5 → ⊥
+
+-- a record that refusal 5 lets pass, with its holder: "Contents are at most 65 bytes"
+pub record SoundLink (l : Link) : Type 0 where
+  pub passes : sound l ≡ true
+  pub holder : length (l .frame) ≡ mostContents
+
+-- and every such record, fresh or not, stays one under each call, refused or not, and under every list of calls
+pub record SoundStays : Type 0 where
+  pub each : (l : Link) (c : Call) → SoundLink l → SoundLink (step l c .link)
+  pub all : (l : Link) (calls : List Call) → SoundLink l → SoundLink (after l calls)

@@ -1,4 +1,4 @@
--- "Every link call gives 5 first .. and 8 last."
+-- "Every link call gives 5 first .. and 8 last." So 5 judges the record as it came: whether a record is sound does not hang on the clock.
 use mathlib.Core.List.{List, [], _∷_}
 use mathlib.Core.Bool.{true, false, not}
 use Prim.Native.Nat.{ℕ}

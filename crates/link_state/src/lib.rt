@@ -9,24 +9,34 @@ ghost use Rattle.link_state.specs.Link.{entering, fresh, renewed};
 ghost use Rattle.link_state.specs.Silence.{lost, checked};
 ghost use Rattle.link_state.specs.Sound.{onList, fitsPhase, holderGood, sound};
 
-// The rate of a connection until another is agreed on.
+// The rate of a connection until another is agreed on, and of the line in Start and Baud.
 pub const FIRST_RATE: u32 = 9600;
 
+// The phases of a connection. The caller keeps the line at 9600 but in Open.
 pub enum Phase {
+    // No connection: a pull of the line is awaited, and bytes are ignored.
     Start,
+    // The line was pulled: a baud frame is awaited.
     Baud,
+    // A rate is agreed on, and the line is at it. For the first 25 ms, dead time, bytes are ignored.
     Open,
 }
 
-// The link's record. `frame` holds the contents of the frame being received, behind its type byte `kind`;
-// of these two together `held` bytes are held, and all behind them is zero.
+// The link's record. A caller makes it with `new`, hands it to each call and keeps the one that comes back; it sets no field itself.
 pub struct Link {
     pub phase: Phase,
+    // What the line is to be at: 9600 but in Open. The reply to the baud frame that changes it is still sent at 9600.
     pub rate: u32,
+    // The tick of the last activity, which is entry to Baud and any byte that is not ignored. Sending is not activity.
     pub last: u32,
+    // Dead time runs: bytes are ignored, and a send is refused with 12. The first call at 25 ms or more that is not refused ends it; a
+    // send is judged as if it had ended then.
     pub dead: bool,
+    // RPC is open: only then is data handed over, and can data be sent.
     pub rpc: bool,
+    // A data frame of ours waits for its status: until then a send is refused with 13. A loss or a detected error drops it.
     pub outstanding: bool,
+    // How many bytes of the frame being received are held: its type byte, `kind`, and then its contents in `frame`. All behind them is zero.
     pub held: usize,
     pub kind: u8,
     pub frame: Holder,
@@ -49,7 +59,7 @@ pub fn enter(phase: Phase, rate: u32, last: u32, dead: bool) -> Link
     }
 }
 
-// A fresh record; a return to Start gives it too.
+// A fresh record, to begin with; a return to Start gives it too. The line is to be at 9600.
 pub fn new() -> Link
     ensures { λ r. ⌜ r ≡ fresh ⌝ }
 {
@@ -124,7 +134,7 @@ pub fn is_sound(link: Link) -> bool
             ))
 }
 
-// Whether the link is lost to silence.
+// Whether the link is lost to silence; in Start there is nothing to lose.
 pub fn is_lost(phase: Phase, last: u32, tick: u32) -> bool
     ensures { λ r. ⌜ r ≡ lost phase last tick ⌝ }
 {

@@ -15,7 +15,8 @@ fn judge_buffer(buffer: usize) -> u8
     lists::check(link_frames::LONGEST_FRAME <= buffer, 8, 0)
 }
 
-// The refusals of pull, byte and poll; 0 where there is none.
+// The refusals of pull, byte and poll; 0 where there is none. 5 judges the record as it came: every call gives it first, and whether
+// a record is sound does not hang on the clock.
 pub fn judge(link: Link, buffer: usize) -> u8
     ensures { λ r. ⌜ r ≡ first (checks link buffer) ⌝ }
 {
@@ -33,7 +34,7 @@ fn is_open(phase: Phase) -> bool
     }
 }
 
-// The refusals of send; 5 judges the record as it came, the others the record after the silence and dead time checks.
+// The refusals of send; 5 judges the record as it came, as in every call, the others the record after the silence and dead time checks.
 pub fn judge_send(link: Link, later: Link, count: usize, buffer: usize) -> u8
     ensures { λ r. ⌜ r ≡ first (sendChecks link later count buffer) ⌝ }
 {

@@ -13,13 +13,13 @@ use Rattle.link_turns.specs.declared.Reply.the-variants as reply
 use Rattle.link_turns.specs.declared.Turn.{Turn}
 
 -- what the caller is told, in the paper's numbers and values: nothing, Open at a rate, data of so many bytes, our outstanding data
--- confirmed (status 0) or failed (status 1 or 2), a detected error, a refusal by its number
+-- confirmed (status 0) or failed with its status (1 or 2), a detected error, a refusal by its number
 pub data Saying : Type 0 where
   nothing : Saying
   opened : ℕ → Saying
   handed : ℕ → Saying
   confirmed : Saying
-  failed : Saying
+  failed : ℕ → Saying
   detected : Saying
   refused : ℕ → Saying
 
@@ -29,13 +29,13 @@ said event.Nothing = nothing
 said (event.Opened rate) = opened rate
 said (event.Handed count) = handed count
 said event.Confirmed = confirmed
-said event.Failed = failed
+said (event.Failed code) = failed code
 said event.DetectedError = detected
 said (event.Refused number) = refused number
 
--- "confirmed by 0, failed by 1 or 2"
+-- "confirmed by 0, failed by 1 or 2, as the caller is told": no good status frame has another code
 unfoldable pub ended : ℕ → Saying
-ended code = cond (eqb code 0) confirmed failed
+ended code = cond (eqb code 0) confirmed (failed code)
 
 -- what is sent back for a frame
 abbrev pub sent : Reply → List ℕ
@@ -55,7 +55,7 @@ pub record Move : Type 0 where
   pub hands : List ℕ
 
 abbrev pub move : Link → Saying → List ℕ → List ℕ → Move
-move l said out bytes = record { link = l; saying = said; sends = out; hands = bytes }
+move l saying out bytes = record { link = l; saying = saying; sends = out; hands = bytes }
 
 -- a turn of the code as a move
 abbrev pub moved : Turn → Move

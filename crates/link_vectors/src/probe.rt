@@ -3,6 +3,7 @@ use crate::names;
 use link::Event;
 use link::Link;
 use link::Next;
+use link::Payload;
 use link::Phase;
 use tables::part;
 
@@ -21,19 +22,22 @@ const WRONG: u8 = 0x05;
 
 const REFUSED: u8 = 0x06;
 
-// A link, and of its last call the event, how many bytes of data it handed over, and how many it sent; and how many bytes
-// were heard up to it.
+// A link, and of its last call the event, with the status or the number that it tells, the bytes of data that it handed over, and
+// how many it sent; and how many bytes were heard up to it.
 pub struct Probe {
     link: Link,
     event: u8,
+    detail: u8,
     handed: usize,
+    bytes: Payload,
     sent: usize,
     heard: usize,
 }
 
-// An event's number, and how many bytes it hands over.
+// An event's number, the status or the number that it tells, and how many bytes it hands over.
 struct Told {
     event: u8,
+    detail: u8,
     handed: usize,
 }
 
@@ -41,42 +45,36 @@ pub fn new() -> Probe {
     Probe {
         link: link::new(),
         event: NOTHING,
+        detail: 0,
         handed: 0,
+        bytes: [0u8; link_frames::MOST_DATA],
         sent: 0,
         heard: 0,
     }
 }
 
+// An event that hands no data over.
+fn plain(event: u8, detail: u8) -> Told {
+    Told {
+        event,
+        detail,
+        handed: 0,
+    }
+}
+
 fn told_of(event: Event) -> Told {
     match event {
-        Event::Nothing => Told {
-            event: NOTHING,
-            handed: 0,
-        },
-        Event::Opened(_) => Told {
-            event: OPENED,
-            handed: 0,
-        },
+        Event::Nothing => plain(NOTHING, 0),
+        Event::Opened(_) => plain(OPENED, 0),
         Event::Handed(handed) => Told {
             event: HANDED,
+            detail: 0,
             handed,
         },
-        Event::Confirmed => Told {
-            event: CONFIRMED,
-            handed: 0,
-        },
-        Event::Failed => Told {
-            event: FAILED,
-            handed: 0,
-        },
-        Event::DetectedError => Told {
-            event: WRONG,
-            handed: 0,
-        },
-        Event::Refused(_) => Told {
-            event: REFUSED,
-            handed: 0,
-        },
+        Event::Confirmed => plain(CONFIRMED, 0),
+        Event::Failed(status) => plain(FAILED, status),
+        Event::DetectedError => plain(WRONG, 0),
+        Event::Refused(number) => plain(REFUSED, number),
     }
 }
 
@@ -85,11 +83,14 @@ fn after(next: Next, heard: usize) -> Probe {
     let link = next.link;
     let told = next.told;
     let event = told.event;
+    let bytes = told.bytes;
     let numbers = told_of(event);
     Probe {
         link,
         event: numbers.event,
+        detail: numbers.detail,
         handed: numbers.handed,
+        bytes,
         sent: told.sent,
         heard,
     }
@@ -141,6 +142,16 @@ fn phase_of(link: Link) -> u8 {
     }
 }
 
+// The event at the front of `told`, and behind it the status of a failure or the number of a refusal; how many bytes that is.
+fn put_event(event: u8, detail: u8, told: &mut [u8]) -> usize {
+    let two = [event, detail];
+    lists::copy_at(told, 0, &two);
+    if (event == FAILED) | (event == REFUSED) {
+        return 2;
+    }
+    1
+}
+
 // What is read off a link and its last call, which sent the bytes at the front of `answer`, at the front of `told`; how many bytes
 // that is.
 pub fn read_off(operation: u8, probe: Probe, answer: &[u8], told: &mut [u8]) -> usize {
@@ -151,8 +162,11 @@ pub fn read_off(operation: u8, probe: Probe, answer: &[u8], told: &mut [u8]) -> 
             lists::copy_at(told, 0, part(answer, 0, probe.sent));
             probe.sent
         }
-        names::HANDED => tables::put_word((probe.handed % 256) as u32, told),
+        names::HANDED => {
+            lists::copy_at(told, 0, part(&probe.bytes, 0, probe.handed));
+            probe.handed
+        }
         names::HEARD => tables::put_word((probe.heard % 256) as u32, told),
-        _ => tables::put_byte(probe.event, told),
+        _ => put_event(probe.event, probe.detail, told),
     }
 }

@@ -1,11 +1,13 @@
-// Lists what a captured line says: a heading, and a line for each packet that it closes. The line's bytes are read from
-// standard input to its end, into a fresh loader.
+// Lists what a captured line says: a heading, and a line for each packet that it closes. The line's bytes are read to their end,
+// from the file that the argument names, or from standard input where there is none, into a fresh loader.
+use libc::STDERR_FILENO;
 use libc::STDIN_FILENO;
 use libc::STDOUT_FILENO;
+use report::Listed;
 use report::Listing;
 
-// With more than this used of 65,536 bytes of text, the next line might not fit.
-const NEARLY_FULL: usize = 65536 - report::LONGEST_LINE;
+// The lines of one write: some 40 of them. Captures fill it often, so that a full text is no rare case.
+const TEXT: usize = 512;
 
 // The next state, and whether to go on.
 struct Turn {
@@ -23,8 +25,13 @@ fn write_out(text: &[u8]) -> bool {
     false
 }
 
-// Feeds what was read, and writes the lines of the packets that it closes: at the end, and before that where the text is
-// nearly full.
+// No call of this program is refused, as its buffers are long enough; one that is ends the program.
+fn say_refused() {
+    io::write_all(STDERR_FILENO, b"listing: the loader refused the call\n");
+}
+
+// Feeds what was read, and writes the lines of the packets that it closes: at the end, and before that where the text's buffer
+// is full, after which the byte that was not fed comes again.
 fn list_run(
     listing: Listing,
     input: &[u8],
@@ -33,8 +40,8 @@ fn list_run(
     flash: &mut [u8],
     words: &mut [u32],
 ) -> Turn {
-    let mut text = io::large_buffer();
-    let mut used: usize = 0;
+    let mut text = [0u8; TEXT];
+    let mut filled: usize = 0;
     let mut state = listing;
     let mut i: usize = 0;
     while i < input.len() {
@@ -46,23 +53,34 @@ fn list_run(
             flash,
             words,
             &mut text,
-            used,
+            filled,
         );
-        state = listed.listing;
-        used = listed.used;
-        i += 1;
-        if NEARLY_FULL < used {
-            if write_out(&text[..used]) {
-                used = 0;
-            } else {
+        match listed {
+            Listed::Full => {
+                if write_out(&text[..filled]) {
+                    filled = 0;
+                } else {
+                    return Turn {
+                        listing: state,
+                        goes_on: false,
+                    };
+                }
+            }
+            Listed::Refused(_) => {
+                say_refused();
                 return Turn {
                     listing: state,
                     goes_on: false,
                 };
             }
+            Listed::Fed { listing, used } => {
+                state = listing;
+                filled = used;
+                i += 1;
+            }
         }
     }
-    let written = write_out(&text[..used]);
+    let written = write_out(&text[..filled]);
     Turn {
         listing: state,
         goes_on: written,
@@ -72,15 +90,17 @@ fn list_run(
 // Reads once, and lists what came. An input that cannot be read is said, so that it does not pass for one that ended.
 fn list_some(
     listing: Listing,
+    fd: i32,
+    name: &[u8],
     packet: &mut [u8],
     answer: &mut [u8],
     flash: &mut [u8],
     words: &mut [u32],
 ) -> Turn {
     let mut input = io::large_buffer();
-    let got = libc::read(STDIN_FILENO, &mut input);
+    let got = libc::read(fd, &mut input);
     if got < 0 {
-        os::fail(b"standard input");
+        os::fail(name);
         return Turn {
             listing,
             goes_on: false,
@@ -96,9 +116,9 @@ fn list_some(
     list_run(listing, &input[..n], packet, answer, flash, words)
 }
 
-// A proved loop has to end, and nothing says that an input does. So the loop counts its reads down, from a number that no
-// run uses up.
-fn main() {
+// Lists an open input. A proved loop has to end, and nothing says that an input does. So the loop counts its reads down, from a
+// number that no run uses up.
+fn list_all(fd: i32, name: &[u8]) {
     let mut packet = [0u8; framing::LONGEST];
     let mut answer = [0u8; loader::LONGEST_ANSWER];
     let mut flash = [0xFFu8; 65536];
@@ -108,9 +128,53 @@ fn main() {
     let mut goes_on = write_out(&heading);
     let mut reads = u64::MAX;
     while goes_on && reads > 0 {
-        let turn = list_some(state, &mut packet, &mut answer, &mut flash, &mut words);
+        let turn = list_some(
+            state,
+            fd,
+            name,
+            &mut packet,
+            &mut answer,
+            &mut flash,
+            &mut words,
+        );
         state = turn.listing;
         goes_on = turn.goes_on;
         reads -= 1;
+    }
+}
+
+fn say_usage() {
+    io::write_all(STDERR_FILENO, b"usage: listing [FILE]\n");
+}
+
+// Lists the file that the argument names. One that begins with a dash is taken for an option, and there are none.
+fn list_file() {
+    let mut name = io::buffer();
+    let n = os::arg(1, &mut name);
+    if os::errno() != 0 {
+        os::fail(b"listing");
+        return;
+    }
+    if n > 0 && name[0] == b'-' {
+        say_usage();
+        return;
+    }
+    let fd = os::open_read(&name[..n]);
+    if fd < 0 {
+        os::fail(&name[..n]);
+        return;
+    }
+    list_all(fd, &name[..n]);
+    libc::close(fd);
+}
+
+fn main() {
+    let count = os::arg_count();
+    if count < 2 {
+        list_all(STDIN_FILENO, b"standard input");
+    } else if count == 2 {
+        list_file();
+    } else {
+        say_usage();
     }
 }

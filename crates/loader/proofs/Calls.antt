@@ -13,10 +13,10 @@ use Rattle.lists.specs.Checks.{_orElse_}
 use Rattle.lists.proofs.Tests.{both, Passed, first-passed}
 use Rattle.framing.specs.Frame.{longest}
 use Rattle.framing.specs.Packets.{Packet, dropped, read, header}
-use Rattle.framing.specs.Line.{stepOf, Steps}
+use Rattle.framing.specs.Line.{Closed, stepOf, closedBy, Steps}
 use Rattle.framing.specs.declared.Stepped.{Stepped}
 use Rattle.framing.specs.declared.Closing.the-variants.{Open, Whole, Broken}
-use Rattle.framing.proofs.Steps.{step-held}
+use Rattle.framing.proofs.Steps.{step-contents}
 use Rattle.commands.specs.Header.{command}
 use Rattle.sessions.specs.Session.{sessionGood}
 use Rattle.loader.specs.Refusals.{BufferLengths, lengthsOf, bufferChecks, recordGood, refusal}
@@ -124,10 +124,10 @@ module _
     next = record { line = s .line; session = loader .session; attach = loader .attach }
 
     going-on :
-        (r : Fed) (a f w : List ℕ) → Feeds (afterByte (s .closing) (s .line) loader packet′ answer flash words) r packet′ a f w
+        (r : Fed) (a f w : List ℕ) → Feeds (afterByte (closedBy (s .closing) packet′) (s .line) loader packet′ answer flash words) r packet′ a f w
         → Feeds (step loader b packet answer flash words) r packet′ a f w
     unfolding step
-    going-on r a f w h = rw (← judged, eq-eqb n 0 good, ← (stepped .answer), ← (stepped .buffer)) h
+    going-on r a f w h = rw (← judged, eq-eqb n 0 good, ← (stepped .closed), ← (stepped .line), ← (stepped .buffer)) h
 
     pub byte-taken :
         s .closing ≡ Open
@@ -149,12 +149,12 @@ module _
         (record
         { says = refl; hands-back = refl; packet-buffer = refl; answer-buffer = refl; in-flash = refl; in-words = refl }))
 
-    -- a whole packet has as many bytes as the line held, and they are in the buffer
+    -- a whole packet's bytes are in the buffer
     pub whole-fits : (m : ℕ) → s .closing ≡ Whole m → length packet′ ≡ length packet → m ≤ length packet′
     whole-fits m e long =
-        let a = allowed loader (bufferLengths packet answer flash words) (sym judged ∙ good) in
-        let h : m ≡ loader .line .held = step-held (loader .line) b packet m (ap (λ (q : Stepped). q .closing) (sym (stepped .answer)) ∙ e) in
-        omega arith
+        let d : Closed = record { stored = m; contents = some (take m packet′) } in
+        let h = step-contents (loader .line) b packet d (take m packet′) (sym (stepped .closed) ∙ ap (λ c. closedBy c packet′) e) refl in
+        omega (arith, h .within)
 
     pub packet-acted :
         (m : ℕ) (r : Fed) (a f w : List ℕ) → s .closing ≡ Whole m → length packet′ ≡ length packet

@@ -6,6 +6,7 @@ use lib.Dec.{leb, eqb}
 use Rattle.lists.specs.Checks.{Check, _orElse_, first}
 use Rattle.fields.specs.Pins.{attachGood}
 use Rattle.framing.specs.Frame.{longest}
+use Rattle.begins.specs.Begin.{sector}
 use Rattle.begins.specs.declared.Lengths.{Lengths}
 use Rattle.sessions.specs.Session.{sessionGood}
 use Rattle.answers.specs.Reply.{longestAnswer}
@@ -24,7 +25,7 @@ lengthsOf r = record { flash = r .flash; words = r .words }
 
 -- "flash length 0, not a multiple of 4,096, or over 4,194,304"
 unfoldable pub flashLength : ℕ → Bool
-flashLength n = leb 1 n && (eqb (n % 4096) 0 && leb n 4194304)
+flashLength n = leb 1 n && (eqb (n % sector) 0 && leb n 4194304)
 
 -- "0 words, or more than 16,384"
 unfoldable pub wordCount : ℕ → Bool

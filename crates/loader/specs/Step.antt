@@ -3,24 +3,22 @@ use Prim.Native.Nat.{ℕ}
 use mathlib.Core.Path.{_≡_}
 use mathlib.Core.List.{List}
 use mathlib.Core.Bool.{cond}
-use mathlib.Core.Option.{none, some}
-use lib.ListN.{length, take}
+use mathlib.Core.Option.{Option, none, some}
+use lib.ListN.{length}
 use lib.Dec.{eqb}
 use Rattle.lists.specs.Lay.{lay}
 use Rattle.framing.specs.Frame.{framed}
 use Rattle.framing.specs.Packets.{header}
-use Rattle.framing.specs.Line.{stepOf}
+use Rattle.framing.specs.Line.{stepOf, Closed as ClosedPacket}
 use Rattle.framing.specs.Run.{fresh}
 use Rattle.framing.specs.declared.Line.{Line}
-use Rattle.framing.specs.declared.Closing.{Closing}
-use Rattle.framing.specs.declared.Closing.the-variants.{Open, Whole, Broken}
 use Rattle.loader.specs.Refusals.{BufferLengths, refusal}
 use Rattle.answers.specs.Answer.{statusOf, answerBytes}
 use Rattle.effects.specs.Core.{Core}
+use Rattle.effects.specs.Notes.{Order, noted}
 use Rattle.effects.specs.Handle.{Reply, nothing, replied, Handled, handle}
 use Rattle.loader.specs.declared.Loader.{Loader}
 use Rattle.sessions.specs.declared.Session.the-variants.{Closed}
-use Rattle.effects.specs.declared.Note.{Note}
 use Rattle.loader.specs.declared.Answer.{Answer}
 use Rattle.loader.specs.declared.Answer.the-variants as code
 use Rattle.loader.specs.declared.Fed.{Fed}
@@ -30,13 +28,13 @@ pub data Told : Type 0 where
   refused : ℕ → Told
   taken : Told
   dropped : (stored : ℕ) → Told
-  answered : (stored command status error sent : ℕ) → Note → Told
+  answered : (stored command status error sent : ℕ) → Order → Told
 
 abbrev pub told : Answer → Told
 told (code.Refused n) = refused n
 told code.Taken = taken
 told (code.Dropped n) = dropped n
-told (code.Answered n c e sent note) = answered n c (statusOf e) e sent note
+told (code.Answered n c e sent note) = answered n c (statusOf e) e sent (noted note)
 
 -- the record that a start begins with
 abbrev pub freshLoader : Loader
@@ -50,6 +48,18 @@ pub record Step : Type 0 where
   pub flash : List ℕ
   pub words : List ℕ
 
+-- a call that changes only the line, the packet buffer and the answer buffer: these as given, all else as it was
+abbrev pub keeping : Told → Line → Loader → List ℕ → List ℕ → List ℕ → List ℕ → Step
+keeping t l r packet answer flash words =
+    record {
+      told = t;
+      loader = record { line = l; session = r .session; attach = r .attach };
+      packet = packet;
+      answer = answer;
+      flash = flash;
+      words = words;
+    }
+
 -- a refused call: "the record comes back the same and no lent room changes"
 unfoldable pub refusing : ℕ → Loader → List ℕ → List ℕ → List ℕ → List ℕ → Step
 refusing n r packet answer flash words =
@@ -58,11 +68,11 @@ refusing n r packet answer flash words =
 -- "On both lines what is sent, framed, fills the front of answer room; the rest, or all of it without an answer, stays."
 unfoldable pub answerBuffer : Reply → List ℕ → List ℕ
 answerBuffer nothing buffer = buffer
-answerBuffer (replied c e v note) buffer = lay buffer 0 (framed (answerBytes c e v))
+answerBuffer (replied c e v order) buffer = lay buffer 0 (framed (answerBytes c e v))
 
 unfoldable pub toldOf : ℕ → Reply → Told
 toldOf stored nothing = dropped stored
-toldOf stored (replied c e v note) = answered stored c (statusOf e) e (length (framed (answerBytes c e v))) note
+toldOf stored (replied c e v order) = answered stored c (statusOf e) e (length (framed (answerBytes c e v))) order
 
 -- a call that closed a packet, which was handled
 unfoldable pub afterPacket : Line → ℕ → Handled → List ℕ → List ℕ → Step
@@ -79,21 +89,11 @@ afterPacket l stored h packet buffer =
 abbrev pub coreOf : Loader → List ℕ → List ℕ → Core
 coreOf r flash words = record { session = r .session; attach = r .attach; flash = flash; words = words }
 
--- after the byte step: nothing closed, or a packet, whole or broken
-unfoldable pub afterByte : Closing → Line → Loader → List ℕ → List ℕ → List ℕ → List ℕ → Step
-afterByte Open l r packet answer flash words =
-    record {
-      told = taken;
-      loader = record { line = l; session = r .session; attach = r .attach };
-      packet = packet;
-      answer = answer;
-      flash = flash;
-      words = words;
-    }
-afterByte (Whole n) l r packet answer flash words =
-    afterPacket l n (handle (coreOf r flash words) (header (some (take n packet)))) packet answer
-afterByte (Broken n) l r packet answer flash words =
-    afterPacket l n (handle (coreOf r flash words) (header none)) packet answer
+-- after the byte step: nothing closed, or a packet
+unfoldable pub afterByte : Option ClosedPacket → Line → Loader → List ℕ → List ℕ → List ℕ → List ℕ → Step
+afterByte none l r packet answer flash words = keeping taken l r packet answer flash words
+afterByte (some d) l r packet answer flash words =
+    afterPacket l (d .stored) (handle (coreOf r flash words) (header (d .contents))) packet answer
 
 -- the lengths of what a call lends
 abbrev pub bufferLengths : List ℕ → List ℕ → List ℕ → List ℕ → BufferLengths
@@ -103,7 +103,7 @@ bufferLengths packet answer flash words =
 unfoldable pub step : Loader → ℕ → List ℕ → List ℕ → List ℕ → List ℕ → Step
 step r b packet answer flash words =
     cond (eqb (refusal r (bufferLengths packet answer flash words)) 0)
-    (afterByte (stepOf (r .line) b packet .answer .closing) (stepOf (r .line) b packet .answer .line) r
+    (afterByte (stepOf (r .line) b packet .closed) (stepOf (r .line) b packet .line) r
     (stepOf (r .line) b packet .buffer) answer flash words)
     (refusing (refusal r (bufferLengths packet answer flash words)) r packet answer flash words)
 

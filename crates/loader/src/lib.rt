@@ -4,7 +4,6 @@ mod refusals;
 
 pub use answers::LONGEST_ANSWER;
 pub use answers::status_of;
-pub use effects::Done;
 pub use effects::Note;
 use framing::Closing;
 use framing::Line;
@@ -23,7 +22,7 @@ ghost use Rattle.answers.specs.Reply.{longestAnswer};
 ghost use Rattle.loader.specs.Step.{step, Feeds, freshLoader, coreOf};
 ghost use Rattle.loader.specs.Parts.{Acts};
 
-// The loader's record.
+// The loader's record. The caller keeps what each call hands back, and hands it to the next call.
 pub struct Loader {
     pub line: Line,
     pub session: Session,
@@ -32,15 +31,16 @@ pub struct Loader {
 
 // What a call answers.
 pub enum Answer {
-    // refused, with the number
+    // refused with this number: the byte is not taken and nothing has changed. Put right what was lent or handed over (1 packet buffer,
+    // 2 answer buffer, 3 flash, 4 words, 5 record), and feed the byte again
     Refused(u8),
-    // the byte is taken, and nothing is closed
+    // the byte is taken, and closes nothing: nothing to send
     Taken,
-    // a packet is closed and dropped
+    // a packet is closed and dropped, of which `stored` bytes went into the packet buffer: nothing to send
     Dropped {
         stored: usize,
     },
-    // a packet is closed, read and answered: `sent` bytes stand at the front of the answer buffer
+    // a packet of `stored` bytes is closed, read and answered: send the first `sent` bytes of the answer buffer, and then do what the note says
     Answered {
         stored: usize,
         command: u8,
@@ -50,7 +50,7 @@ pub enum Answer {
     },
 }
 
-// The answer, and the next record.
+// The answer, and the record for the next call, whatever the answer.
 pub struct Fed {
     pub answer: Answer,
     pub loader: Loader,
@@ -62,7 +62,7 @@ pub enum Packet {
     Read(u8),
 }
 
-// The record that a start begins with.
+// The record that a start begins with: for the first call.
 pub fn new() -> Loader
     ensures { λ r. ⌜ r ≡ freshLoader ⌝ }
 {
@@ -113,7 +113,11 @@ fn act(loader: Loader, packet: &[u8], answer: &mut [u8], flash: &mut [u8], words
     }
 }
 
-// One received byte.
+// One received byte. The caller lends
+// - a packet buffer of at least 4,120 bytes, the same for each byte, and does not write to it;
+// - an answer buffer of at least 22 bytes, which it may use as it likes between calls;
+// - flash, of a length that is a multiple of 4,096 up to 4,194,304, and 1 to 16,384 words of memory, the same for each byte;
+// keeps the record that comes back, and does what stands at the answer's case.
 pub fn feed(
     loader: Loader,
     byte: u8,

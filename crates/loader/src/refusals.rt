@@ -2,6 +2,7 @@
 use crate::Loader;
 use answers::LONGEST_ANSWER;
 use begins::Lengths;
+use begins::SECTOR;
 use framing::LONGEST;
 use lists::check;
 use sessions::session_good;
@@ -12,7 +13,7 @@ ghost use Rattle.loader.specs.Refusals.{flashLength, wordCount, recordGo
 fn flash_length_good(n: usize) -> bool
     ensures { λ r. ⌜ r ≡ flashLength n ⌝ }
 {
-    (1 <= n) & ((n % 4096 == 0) & (n <= 4194304))
+    (1 <= n) & ((n as u64 % SECTOR == 0) & (n <= 4194304))
 }
 
 // Refusal 4: 1 to 16,384 words.

@@ -1,24 +1,35 @@
 // Every theorem, a function each: the contract is the theorem, and a theorem without a proof is an unproved function.
 ghost use Rattle.loader.specs.Theorems.{RefusedChangesNothing, FailedChangesNothing};
-ghost use Rattle.framing.specs.Theorems.{RoundTrip, CutOfFrame, StepsAreCut};
+ghost use Rattle.framing.specs.Theorems.{RoundTrip, FrameComesBack, CutOfFrame, StepsAreCut};
 ghost use Rattle.fields.specs.Theorems.{WordBack, PackedSays};
+ghost use Rattle.begins.specs.Count.{CountIsDividedUp};
 ghost use Rattle.history.specs.Theorems.{PacketsKeep, PacketsLoad};
+ghost use Rattle.history.specs.Witness.{WorkedFits};
 ghost use Rattle.claims.specs.CallHistory.{CallsAreHistory};
 ghost use Rattle.claims.specs.Demand3.{Demand3};
-ghost use Rattle.link_claims.specs.Sound.{NeverRefused};
-ghost use Rattle.link_claims.specs.Frames.{ReadsOwn, StartsAre};
+ghost use Rattle.claims.specs.Arrives.{PacketArrives, FrameArrives};
+ghost use Rattle.claims.specs.WorkedLoad.{WorkedLoad};
+ghost use Rattle.link_claims.specs.Sound.{NeverRefused, SoundStays};
+ghost use Rattle.link_claims.specs.Refusals.{LinkRefusedChangesNothing, SoundAfterChecks};
+ghost use Rattle.link_claims.specs.Errors.{ErrorsDetected};
+ghost use Rattle.link_claims.specs.Failures.{LinkFailedChangesNothing};
+ghost use Rattle.link_claims.specs.Frames.{StartsAre};
+ghost use Rattle.link_claims.specs.Reading.{ReadingIs};
+ghost use Rattle.link_claims.specs.Own.{ReadsOwn};
 ghost use Rattle.link_claims.specs.Decides.{Decides};
+ghost use Rattle.link_claims.specs.Tells.{TellsOnly};
 ghost use Rattle.cases.specs.Cases.{Starred};
-ghost use Rattle.report.specs.Example.{Example};
+ghost use Rattle.cases.specs.Example.{Example};
 
 // ---- Demand 1: a bad call and a bad command change nothing.
 
-// A refused call of the loader gets its number; its record and every buffer come back as they were.
+// A call of the loader that has a number is refused with it, and no other is; its record and every buffer come back as they were.
 pub fn refused_changes_nothing()
     ensures { λ r. ⌜ RefusedChangesNothing ⌝ }
 {}
 
-// A command that fails is answered with its error; session, flash, words and attach word stay.
+// A call that closes a packet whose command fails answers it with its error, and one that drops a packet tells it; no other call tells
+// either, and session, attach word, flash and words stay.
 pub fn failed_changes_nothing()
     ensures { λ r. ⌜ FailedChangesNothing ⌝ }
 {}
@@ -28,6 +39,11 @@ pub fn failed_changes_nothing()
 // A packet of 1 to 4,120 bytes, framed and then fed to the byte step, comes back the same.
 pub fn round_trip()
     ensures { λ r. ⌜ RoundTrip ⌝ }
+{}
+
+// The framing routine refuses no such packet whose framed length fits, and what it leaves in its buffer comes back the same.
+pub fn frame_comes_back()
+    ensures { λ r. ⌜ FrameComesBack ⌝ }
 {}
 
 // The same by cutting: a framed packet is one stretch that stands for that packet.
@@ -40,6 +56,17 @@ pub fn steps_are_cut()
     ensures { λ r. ⌜ StepsAreCut ⌝ }
 {}
 
+// A framed packet, fed to the loader call by call, is that packet handled: every call before its last takes its byte, and the last
+// tells, answers and leaves what `handle` says.
+pub fn packet_arrives()
+    ensures { λ r. ⌜ PacketArrives ⌝ }
+{}
+
+// The same of the bytes that `frame` wrote into its buffer.
+pub fn frame_arrives()
+    ensures { λ r. ⌜ FrameArrives ⌝ }
+{}
+
 // A word's four bytes, least first, are read back as the word.
 pub fn word_back()
     ensures { λ r. ⌜ WordBack ⌝ }
@@ -48,6 +75,11 @@ pub fn word_back()
 // SPI_ATTACH takes every word that the packer of pins makes, and its fields say those pins.
 pub fn packed_says()
     ensures { λ r. ⌜ PackedSays ⌝ }
+{}
+
+// The test of a BEGIN's block count, n*b from S up to less than S + b, says n = S/b rounded up.
+pub fn count_is_divided_up()
+    ensures { λ r. ⌜ CountIsDividedUp ⌝ }
 {}
 
 // ---- Demand 3: FLASH_END succeeds exactly where the packets so far fit the grammar, and flash is then as announced.
@@ -73,16 +105,46 @@ pub fn demand_3()
     ensures { λ r. ⌜ Demand3 ⌝ }
 {}
 
+// The grammar is not empty: a BEGIN, one block and an END, in bytes, fit it.
+pub fn worked_fits()
+    ensures { λ r. ⌜ WorkedFits ⌝ }
+{}
+
+// Fed to a fresh loader, those bytes end with the success of FLASH_END, and flash holds the block's byte, with 0xFF behind it.
+pub fn worked_load()
+    ensures { λ r. ⌜ WorkedLoad ⌝ }
+{}
+
 // ---- The link.
+
+// A call of the link that has a number is refused with it, and no other is; its record and its buffer come back as they were.
+pub fn link_refused_changes_nothing()
+    ensures { λ r. ⌜ LinkRefusedChangesNothing ⌝ }
+{}
+
+// A frame that gets status 1 or 2 leaves phase, rate, RPC and outstanding data as they were.
+pub fn link_failed_changes_nothing()
+    ensures { λ r. ⌜ LinkFailedChangesNothing ⌝ }
+{}
+
+// A byte that shows an error leads back to Start with nothing sent, and no other byte is told as one.
+pub fn errors_detected()
+    ensures { λ r. ⌜ ErrorsDetected ⌝ }
+{}
 
 // From a fresh record no list of calls leads to refusal 5.
 pub fn never_refused()
     ensures { λ r. ⌜ NeverRefused ⌝ }
 {}
 
-// Every frame that this end writes is read as what it is.
-pub fn reads_own()
-    ensures { λ r. ⌜ ReadsOwn ⌝ }
+// A record that refusal 5 lets pass stays one under every list of calls.
+pub fn sound_stays()
+    ensures { λ r. ⌜ SoundStays ⌝ }
+{}
+
+// Judged after the silence and dead time checks, such a record would be refused with the same number.
+pub fn sound_after_checks()
+    ensures { λ r. ⌜ SoundAfterChecks ⌝ }
 {}
 
 // Held bytes pass refusal 5 exactly where a longer good frame starts with them.
@@ -90,9 +152,24 @@ pub fn starts_are()
     ensures { λ r. ⌜ StartsAre ⌝ }
 {}
 
-// Out of dead time, 67 bytes decide whatever is held.
+// A byte ends a good frame, goes on with one, or shows an error at once.
+pub fn reading_is()
+    ensures { λ r. ⌜ ReadingIs ⌝ }
+{}
+
+// Every frame that either end writes is read as what it is.
+pub fn reads_own()
+    ensures { λ r. ⌜ ReadsOwn ⌝ }
+{}
+
+// Out of dead time, 67 bytes with those held decide, whatever calls come between.
 pub fn decides()
     ensures { λ r. ⌜ Decides ⌝ }
+{}
+
+// A rate that is told is on the list, data that is handed over is at most 64 bytes, and a failure is 1 or 2.
+pub fn tells_only()
+    ensures { λ r. ⌜ TellsOnly ⌝ }
 {}
 
 // ---- The worked cases.
@@ -102,7 +179,7 @@ pub fn starred()
     ensures { λ r. ⌜ Starred ⌝ }
 {}
 
-// The lines of the listing's example, and a dropped packet's.
+// The listing of the example's bytes is its heading and its two lines; a dropped packet behind them has `--` in its fields.
 pub fn example()
     ensures { λ r. ⌜ Example ⌝ }
 {}

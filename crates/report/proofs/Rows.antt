@@ -1,37 +1,69 @@
--- What a call of `line` comes to: too little is left of the buffer, there is no line, or a line is written.
+-- What putting a line behind the used bytes comes to, and what an answer of the listing says of its text.
 use Prim.Native.Nat.{ℕ, _+_, _≤_, _<_}
-use mathlib.Core.Path.{_≡_, refl, sym, ap}
+use mathlib.Core.Path.{_≡_, refl, sym, ap, _∙_}
 use mathlib.Core.List.{List, []}
 use mathlib.Core.Bool.{Bool, true, false, cond}
 use native.Mathlib.Nat.{add-zero}
 use native.Mathlib.Omega.{arith}
-use lib.Dec.{leb}
+use borrow.Author.Tests.{leb-false}
 use lib.ListN.{length, length-append, length-take}
-use borrow.Author.Tests.{le-leb, lt-leb}
 use Rattle.lists.specs.Lay.{lay}
 use Rattle.lists.proofs.Laws.{lay-nil}
-use Rattle.report.specs.Lines.{longestLine, Appends}
+use Rattle.loader.specs.Step.{Told, refused, taken, dropped, answered, Step, step}
+use Rattle.report.specs.Lines.{lineOf, longestLine, hasSpace, Appends}
+use Rattle.report.specs.Listing.{ListReport, not-fed, call-refused, listed, listReport, reportOf, ListStep, full, listedBy, listStep}
+use Rattle.report.specs.declared.Listing.{Listing}
+use Rattle.report.specs.declared.Listed.{Listed}
+use Rattle.report.specs.declared.Listed.the-variants.{Full, Fed}
 
-module _ (text buffer : List ℕ) (used : ℕ) where
-  pub too-short : length buffer < used + longestLine → Appends text buffer used used buffer
-  too-short h =
-      let e : leb (used + longestLine) (length buffer) ≡ false = lt-leb (used + longestLine) (length buffer) h in
-      record { tells = rw e; leaves = rw e }
+pub no-line : (buffer : List ℕ) (used : ℕ) → Appends [] buffer used used buffer
+no-line buffer used = record { tells = sym (add-zero used); leaves = sym (lay-nil buffer used) }
 
-  pub written : (n : ℕ) (after : List ℕ) → used + longestLine ≤ length buffer → (n ≡ used + length text) × (after ≡ lay buffer used text) → Appends text buffer used n after
-  written n after h e =
-      let g : leb (used + longestLine) (length buffer) ≡ true = le-leb (used + longestLine) (length buffer) h in
-      record { tells = rw g (e .0); leaves = rw g (e .1) }
+-- a row is a line
+pub row : {text buffer after : List ℕ} {used n : ℕ} → (n ≡ used + length text) × (after ≡ lay buffer used text) → Appends text buffer used n after
+row e = record { tells = e .0; leaves = e .1 }
 
-pub no-line : (buffer : List ℕ) (used : ℕ) → used + longestLine ≤ length buffer → Appends [] buffer used used buffer
-no-line buffer used h = written [] buffer used used buffer h (sym (add-zero used), sym (lay-nil buffer used))
+-- a call of the loader is never told as a byte that was not fed
+report-fed : (t : Told) (next : Listing) (u : ℕ) {A : Type 0} → reportOf t next u ≡ not-fed → A
+unfolding reportOf
+report-fed (refused n) next u e = let z : _≡_ {A = ℕ} 0 1 = cc in absurd (omega arith)
+report-fed taken next u e = let z : _≡_ {A = ℕ} 0 1 = cc in absurd (omega arith)
+report-fed (dropped n) next u e = let z : _≡_ {A = ℕ} 0 1 = cc in absurd (omega arith)
+report-fed (answered n c s e′ k o) next u e = let z : _≡_ {A = ℕ} 0 1 = cc in absurd (omega arith)
 
-module _ (text buffer : List ℕ) (used n : ℕ) (after : List ℕ) where
-  within : (t : Bool) → leb (used + longestLine) (length buffer) ≡ t → n ≡ cond t (used + length text) used → after ≡ cond t (lay buffer used text) buffer → length after ≡ length buffer → used ≤ length buffer → n ≤ length buffer
-  unfolding lay
-  within true h e g k u = omega (arith, simp (length-append, length-take) at (ap length g))
-  within false h e g k u = omega arith
+-- what is told as used is what was used
+report-used : (t : Told) (next after : Listing) (u n : ℕ) → reportOf t next u ≡ listed after n → n ≡ u
+unfolding reportOf
+report-used (refused k) next after u n e = let z : _≡_ {A = ℕ} 0 1 = cc in absurd (omega arith)
+report-used taken next after u n e = cc
+report-used (dropped k) next after u n e = cc
+report-used (answered k c s e′ m o) next after u n e = cc
 
-  -- what is used lies within the buffer
-  pub appends-within : Appends text buffer used n after → length after ≡ length buffer → used ≤ length buffer → n ≤ length buffer
-  appends-within w k u = within (leb (used + longestLine) (length buffer)) refl (w .tells) (w .leaves) k u
+module _ (l : Listing) (b : ℕ) (packet answer flash words text : List ℕ) (used : ℕ) where
+  abbrev fed : Step
+  fed = step (l .loader) b packet answer flash words
+
+  abbrev outcome : Bool → ListStep
+  outcome t = cond t (listedBy fed (l .number) text used) (full packet answer flash words text)
+
+  full-at : (t : Bool) → hasSpace (length text) used ≡ t → outcome t .said ≡ not-fed → length text < used + longestLine
+  unfolding listedBy
+  full-at true h e = report-fed (fed .told) _ _ e
+  full-at false h e = leb-false _ _ h
+
+  -- where the text is said to be full, fewer than 30 bytes are left
+  pub full-where : {r : Listed} → listReport r ≡ listStep l b packet answer flash words text used .said → r ≡ Full → length text < used + longestLine
+  unfolding listStep
+  full-where e f = full-at (hasSpace (length text) used) refl (sym e ∙ ap listReport f)
+
+  module _ (next : Listing) (n : ℕ) (after : List ℕ) (k : length after ≡ length text) (u : used ≤ length text) where
+    fed-at : (t : Bool) → outcome t .said ≡ listed next n → after ≡ outcome t .text → n ≤ length text
+    unfolding listedBy full lay
+    fed-at true e g = let m : n ≡ used + length (lineOf (l .number) (fed .told)) = report-used (fed .told) _ next _ n e in omega (arith, simp (length-append, length-take) at (ap length g))
+    fed-at false e g = let z : _≡_ {A = ℕ} 0 1 = cc in absurd (omega arith)
+
+    -- what is used lies within the text's buffer
+    pub fed-within : {r : Listed} → listReport r ≡ listStep l b packet answer flash words text used .said → r ≡ Fed next n
+        → after ≡ listStep l b packet answer flash words text used .text → n ≤ length text
+    unfolding listStep
+    fed-within e f g = fed-at (hasSpace (length text) used) (sym e ∙ ap listReport f) g

@@ -2,12 +2,14 @@
 use Prim.Native.Nat.{ℕ, _+_}
 use mathlib.Core.Path.{_≡_}
 use mathlib.Core.List.{List, [], _∷_, _++_}
-use mathlib.Core.Bool.{cond}
+use mathlib.Core.Bool.{Bool, cond}
 use lib.ListN.{length}
 use lib.Dec.{leb}
 use Rattle.lists.specs.Lay.{lay}
 use Rattle.loader.specs.Step.{Told, refused, taken, dropped, answered}
 use Rattle.report.specs.Numbers.{hex2, decimal}
+use Rattle.report.specs.declared.Written.{Written}
+use Rattle.report.specs.declared.Written.the-variants.{Full, Used}
 
 abbrev tab : ℕ
 tab = 9
@@ -43,7 +45,25 @@ lineOf number (answered stored command status error sent note) =
 abbrev pub longestLine : ℕ
 longestLine = 30
 
--- a text laid behind the bytes of a buffer that are used, and how many are used then; where the buffer might not hold every line there, it is left as it is
+-- behind the used bytes of a buffer of this length, every line fits
+abbrev pub hasSpace : ℕ → ℕ → Bool
+hasSpace n used = leb (used + longestLine) n
+
+-- a text laid behind the used bytes of a buffer, and how many are used then
 pub record Appends (text buffer : List ℕ) (used used-then : ℕ) (after : List ℕ) : Type 0 where
-  pub tells : used-then ≡ cond (leb (used + longestLine) (length buffer)) (used + length text) used
-  pub leaves : after ≡ cond (leb (used + longestLine) (length buffer)) (lay buffer used text) buffer
+  pub tells : used-then ≡ used + length text
+  pub leaves : after ≡ lay buffer used text
+
+-- what `line` says: that the buffer has no space for every line, or how many of its bytes are used
+pub data WriteReport : Type 0 where
+  no-space : WriteReport
+  filled : ℕ → WriteReport
+
+abbrev pub writeReport : Written → WriteReport
+writeReport Full = no-space
+writeReport (Used n) = filled n
+
+-- the same where every line fits; elsewhere it is said that there is no space, and the buffer stays
+pub record Writes (text buffer : List ℕ) (used : ℕ) (r : Written) (after : List ℕ) : Type 0 where
+  pub says : writeReport r ≡ cond (hasSpace (length buffer) used) (filled (used + length text)) no-space
+  pub leaves : after ≡ cond (hasSpace (length buffer) used) (lay buffer used text) buffer

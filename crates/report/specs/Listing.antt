@@ -2,10 +2,14 @@
 use Prim.Native.Nat.{ℕ, _+_, _^_, _%_}
 use mathlib.Core.Path.{_≡_}
 use mathlib.Core.List.{List}
-use Rattle.loader.specs.Step.{Told, refused, taken, dropped, answered, Step, freshLoader}
-use Rattle.report.specs.Lines.{lineOf, Appends}
+use mathlib.Core.Bool.{cond}
+use lib.ListN.{length}
+use Rattle.lists.specs.Lay.{lay}
+use Rattle.loader.specs.Step.{Told, refused, taken, dropped, answered, Step, freshLoader, step}
+use Rattle.report.specs.Lines.{lineOf, hasSpace}
 use Rattle.report.specs.declared.Listing.{Listing}
 use Rattle.report.specs.declared.Listed.{Listed}
+use Rattle.report.specs.declared.Listed.the-variants.{Full, Refused, Fed}
 
 -- before the first byte: a fresh loader, and the first packet is number 1
 abbrev pub freshListing : Listing
@@ -18,12 +22,63 @@ numberAfter taken number = number
 numberAfter (dropped stored) number = (number + 1) % 2 ^ 64
 numberAfter (answered stored command status error sent note) number = (number + 1) % 2 ^ 64
 
--- a call of the listing whose call of the loader comes to s: the loader's record and buffers are those of s, and the line of what s tells stands behind the used bytes of the text's buffer
-pub record Lists (s : Step) (number : ℕ) (buffer : List ℕ) (used : ℕ) (r : Listed) (packet answer flash words text : List ℕ) : Type 0 where
-  pub hands-back : r .listing .loader ≡ s .loader
-  pub counts : r .listing .number ≡ numberAfter (s .told) number
-  pub appends : Appends (lineOf number (s .told)) buffer used (r .used) text
+-- what a call of the listing says: that its byte was not fed, for want of space; that the loader refused the call, with its number; or the next
+-- state and how many bytes of the text's buffer are used
+pub data ListReport : Type 0 where
+  not-fed : ListReport
+  call-refused : ℕ → ListReport
+  listed : Listing → ℕ → ListReport
+
+abbrev pub listReport : Listed → ListReport
+listReport Full = not-fed
+listReport (Refused n) = call-refused n
+listReport (Fed next used) = listed next used
+
+-- by what the loader tells
+unfoldable pub reportOf : Told → Listing → ℕ → ListReport
+reportOf (refused n) next used = call-refused n
+reportOf taken next used = listed next used
+reportOf (dropped stored) next used = listed next used
+reportOf (answered stored command status error sent order) next used = listed next used
+
+-- what a call of the listing comes to: what it says, and each lent buffer afterwards
+pub record ListStep : Type 0 where
+  pub said : ListReport
+  pub packet : List ℕ
+  pub answer : List ℕ
+  pub flash : List ℕ
+  pub words : List ℕ
+  pub text : List ℕ
+
+-- the byte is not fed
+unfoldable pub full : List ℕ → List ℕ → List ℕ → List ℕ → List ℕ → ListStep
+full packet answer flash words text =
+    record { said = not-fed; packet = packet; answer = answer; flash = flash; words = words; text = text }
+
+-- the byte is fed by a call of the loader that comes to s; the line of what s tells stands behind the used bytes of the text's buffer
+unfoldable pub listedBy : Step → ℕ → List ℕ → ℕ → ListStep
+listedBy s number text used =
+    record {
+      said = reportOf (s .told) (record { loader = s .loader; number = numberAfter (s .told) number }) (used + length (lineOf number (s .told)));
+      packet = s .packet;
+      answer = s .answer;
+      flash = s .flash;
+      words = s .words;
+      text = lay text used (lineOf number (s .told));
+    }
+
+-- a byte is fed where every line fits, so no line is lost
+unfoldable pub listStep : Listing → ℕ → List ℕ → List ℕ → List ℕ → List ℕ → List ℕ → ℕ → ListStep
+listStep l b packet answer flash words text used =
+    cond (hasSpace (length text) used)
+    (listedBy (step (l .loader) b packet answer flash words) (l .number) text used)
+    (full packet answer flash words text)
+
+-- the call's answer and each lent buffer at exit are those of s
+pub record Lists (s : ListStep) (r : Listed) (packet answer flash words text : List ℕ) : Type 0 where
+  pub says : listReport r ≡ s .said
   pub packet-buffer : packet ≡ s .packet
   pub answer-buffer : answer ≡ s .answer
   pub in-flash : flash ≡ s .flash
   pub in-words : words ≡ s .words
+  pub in-text : text ≡ s .text

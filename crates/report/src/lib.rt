@@ -8,13 +8,13 @@ ghost use Prim.Native.Nat.{_+_, _≤_, _<_};
 ghost use lib.ListN.{length};
 ghost use Rattle.lists.specs.Lay.{lay};
 ghost use Rattle.answers.specs.Answer.{statusOf};
-ghost use Rattle.loader.specs.Step.{told, step};
+ghost use Rattle.loader.specs.Step.{told};
 ghost use Rattle.report.specs.Numbers.{hexDigit, hex2, decimal};
 ghost use Rattle.report.specs.Lines.{heading as Lines·heading};
-ghost use Rattle.report.specs.Lines.{fieldsOf, dashes, lineOf, Appends};
-ghost use Rattle.report.specs.Listing.{freshListing, numberAfter, Lists};
+ghost use Rattle.report.specs.Lines.{fieldsOf, dashes, lineOf, longestLine, hasSpace, Appends, Writes};
+ghost use Rattle.report.specs.Listing.{freshListing, numberAfter, listReport, reportOf, listStep, Lists};
 
-// The buffer that holds every line: a number of 20 digits, and 10 bytes.
+// The bytes that hold every line: a number of 20 digits, and 10 bytes.
 pub const LONGEST_LINE: usize = 30;
 
 const TAB: u8 = b'\t';
@@ -36,10 +36,22 @@ pub struct Listing {
     pub number: u64,
 }
 
-// The next state, and how many bytes of the text's buffer are used.
-pub struct Listed {
-    pub listing: Listing,
-    pub used: usize,
+// What `line` says.
+pub enum Written {
+    // fewer than 30 bytes are left in the buffer: nothing is written
+    Full,
+    // the line is written, and so many bytes of the buffer are used
+    Used(usize),
+}
+
+// What `feed` says.
+pub enum Listed {
+    // fewer than 30 bytes are left in the text's buffer: the byte is not fed, and nothing changes
+    Full,
+    // the loader refused the call, with its number from 1 to 5: the byte is not taken, and nothing changes
+    Refused(u8),
+    // the byte is taken: the next state, and how many bytes of the text's buffer are used
+    Fed { listing: Listing, used: usize },
 }
 
 // ---- numbers
@@ -117,17 +129,24 @@ fn write_row(number: u64, fields: &[u8], buffer: &mut [u8], used: usize) -> usiz
     at + fields.len()
 }
 
-// The line of a call of the loader, behind the used bytes of a buffer; how many are used then. Where fewer than 30 bytes are
-// left, nothing is written.
-pub fn line(number: u64, answer: Answer, buffer: &mut [u8], used: usize) -> usize
+// Every line fits behind the used bytes of a buffer.
+fn has_space(length: usize, used: usize) -> bool
+    ensures { λ r. ⌜ r ≡ hasSpace length used ⌝ }
+{
+    if length < LONGEST_LINE {
+        return false;
+    }
+    if length - LONGEST_LINE < used {
+        return false;
+    }
+    true
+}
+
+// The line of a call of the loader, behind the used bytes of a buffer; how many are used then.
+fn put_line(number: u64, answer: Answer, buffer: &mut [u8], used: usize) -> usize
+    requires { ⌜ used + longestLine ≤ length (now buffer) ⌝ }
     ensures { λ r. ⌜ Appends (lineOf number (told answer)) (now (buffer .entry)) used r (now (buffer .exit)) ⌝ }
 {
-    if buffer.len() < LONGEST_LINE {
-        return used;
-    }
-    if buffer.len() - LONGEST_LINE < used {
-        return used;
-    }
     match answer {
         Answer::Refused(_) => used,
         Answer::Taken => used,
@@ -148,8 +167,19 @@ pub fn line(number: u64, answer: Answer, buffer: &mut [u8], used: usize) -> usiz
     }
 }
 
+// The line of a call of the loader, behind the used bytes of a buffer.
+pub fn line(number: u64, answer: Answer, buffer: &mut [u8], used: usize) -> Written
+    ensures { λ r. ⌜ Writes (lineOf number (told answer)) (now (buffer .entry)) used r (now (buffer .exit)) ⌝ }
+{
+    if has_space(buffer.len(), used) {
+        return Written::Used(put_line(number, answer, buffer, used));
+    }
+    Written::Full
+}
+
 // ---- the listing
 
+// The listing before the first byte.
 pub fn new() -> Listing
     ensures { λ r. ⌜ r ≡ freshListing ⌝ }
 {
@@ -177,7 +207,26 @@ fn next_number(answer: Answer, number: u64) -> u64
     }
 }
 
+// What a call says by the loader's answer, with the next state and how many bytes of the text are used.
+fn listed_as(answer: Answer, listing: Listing, used: usize) -> Listed
+    ensures { λ r. ⌜ listReport r ≡ reportOf (told answer) listing used ⌝ }
+{
+    match answer {
+        Answer::Refused(number) => Listed::Refused(number),
+        Answer::Taken => Listed::Fed { listing, used },
+        Answer::Dropped { stored: _ } => Listed::Fed { listing, used },
+        Answer::Answered {
+            stored: _,
+            command: _,
+            error: _,
+            sent: _,
+            note: _,
+        } => Listed::Fed { listing, used },
+    }
+}
+
 // One received byte, fed to the loader; where it closes a packet, the packet's line is written behind the used bytes of `text`.
+// The space for a line is judged first, so that no line is lost: on `Full` the caller empties `text` and feeds the byte again.
 pub fn feed(
     listing: Listing,
     byte: u8,
@@ -189,20 +238,20 @@ pub fn feed(
     used: usize,
 ) -> Listed
     ensures { λ r. ⌜ Lists
-        (step (listing .loader) byte (now (packet .entry)) (now (answer .entry)) (now (flash .entry)) (now (words .entry)))
-        (listing .number) (now (text .entry)) used r
-        (now (packet .exit)) (now (answer .exit)) (now (flash .exit)) (now (words .exit)) (now (text .exit)) ⌝ }
+        (listStep listing byte (now (packet .entry)) (now (answer .entry)) (now (flash .entry)) (now (words .entry)) (now (text .entry)) used)
+        r (now (packet .exit)) (now (answer .exit)) (now (flash .exit)) (now (words .exit)) (now (text .exit)) ⌝ }
 {
-    let number = listing.number;
-    let fed = loader::feed(listing.loader, byte, packet, answer, flash, words);
-    let said = fed.answer;
-    let next = fed.loader;
-    let longer = line(number, said, text, used);
-    Listed {
-        listing: Listing {
+    if has_space(text.len(), used) {
+        let number = listing.number;
+        let fed = loader::feed(listing.loader, byte, packet, answer, flash, words);
+        let said = fed.answer;
+        let next = fed.loader;
+        let longer = put_line(number, said, text, used);
+        let after = Listing {
             loader: next,
             number: next_number(said, number),
-        },
-        used: longer,
+        };
+        return listed_as(said, after, longer);
     }
+    Listed::Full
 }

@@ -34,6 +34,6 @@ kind-none c h =
     )
 
 -- a command that is none of the ten
-pub error-none : (l : Lengths) (s : Session) (p : List ℕ) (c : ℕ) → c ≡ command p → kind c ≡ unknown → unknownCommand ≡ errorOf l s p
+pub error-none : (l : Lengths) (s : Session) (p : List ℕ) (c : ℕ) → c ≡ command p → kind c ≡ unknown → errorOf l s p ≡ unknownCommand
 unfolding errorOf checks first
-error-none l s p c a e = rw (← a, e)
+error-none l s p c a k = rw (← a, k)

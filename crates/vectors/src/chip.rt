@@ -20,7 +20,7 @@ pub const GOT: usize = LONGEST_FIELD + FLASH_LENGTH;
 // The error of a call that does not answer: no command has it.
 const SILENT: u8 = 0xEE;
 
-// Of some calls: whether a packet was closed, the bits of all their errors; of the last one, whether it did not answer, and how
+// Of some calls: how many packets they closed, the bits of all their errors; of the last one, whether it did not answer, and how
 // many bytes it sent.
 struct Said {
     closed: u8,
@@ -45,7 +45,7 @@ fn joined(said: Said, answer: Answer) -> Said {
             sent: 0,
         },
         Answer::Dropped { stored: _ } => Said {
-            closed: 1,
+            closed: std::num::wrapping_add_u8(said.closed, 1),
             errors: SILENT,
             silent: SILENT,
             sent: 0,
@@ -57,7 +57,7 @@ fn joined(said: Said, answer: Answer) -> Said {
             sent,
             note: _,
         } => Said {
-            closed: 1,
+            closed: std::num::wrapping_add_u8(said.closed, 1),
             errors: said.errors | error,
             silent: 0,
             sent,

@@ -1,12 +1,13 @@
-use Rattle.lists.proofs.Laws.{tests}
+use mathlib.Core.Path.{refl}
+use borrow.Author.Tests.{eq-eqb, ne-eqb}
 use Rattle.answers.proofs.status_of.Statement.{statement}
 use Rattle.answers.proofs.status_of.Tie as tie
 
 returns : tie.Need-returns
-returns c = search tests
+returns c = rw (eq-eqb _ 0 (c .if1 .taken)) refl
 
 returns-2 : tie.Need-returns-2
-returns-2 c = search tests
+returns-2 c = rw (ne-eqb _ 0 (c .if1 .left)) refl
 
 pub status-of-spec : {M : Type 1} → statement M
 status-of-spec = tie.close (tie.spec returns returns-2)

@@ -4,6 +4,9 @@ use borrow.Author.Needs.{needs}
 use Rattle.begins.proofs.round_up.Statement.{statement}
 use Rattle.begins.proofs.round_up.Tie as tie
 
+sub-result : tie.Need-sub-result
+sub-result c = search needs
+
 add-result : tie.Need-add-result
 add-result c = search needs
 
@@ -15,4 +18,4 @@ unfolding roundUp
 returns c = refl
 
 pub round-up-spec : {M : Type 1} → statement M
-round-up-spec = tie.close (tie.spec add-result mul-result returns)
+round-up-spec = tie.close (tie.spec sub-result add-result mul-result returns)

@@ -3,7 +3,7 @@ use native.Mathlib.Omega.{arith}
 use Rattle.sessions.specs.Errors.{kind}
 use Rattle.sessions.proofs.Numbers.{kind-none}
 use Rattle.effects.specs.Effects.{effect}
-use Rattle.effects.proofs.Passing.{written-place, read-place, flash-data, memory-data}
+use Rattle.effects.proofs.Passing.{written-place, read-place, flash-data, memory-data, flash-word, memory-word}
 use Rattle.effects.proofs.Fitting.{flash-written, words-written}
 use Rattle.effects.proofs.Carried.{does-at, does-none, leaves}
 use borrow.Author.Needs.{needs}
@@ -42,7 +42,10 @@ leaving-requires-2 : tie.Need-leaving-requires-2
 leaving-requires-2 c κs = search needs
 
 flash-note-requires : tie.Need-flash-note-requires
-flash-note-requires c κs = search needs
+flash-note-requires c κs =
+    let at-command-of = c .before in
+    let start = at-command-of .before .before .before .before in
+    let a = start .args in flash-word _ (a .session) (a .packet .now) _ (at-command-of .command-of .ensures) (start .pre .0) (c .match .keys3)
 
 ending-requires : tie.Need-ending-requires
 ending-requires c κs = search needs
@@ -54,7 +57,10 @@ leaving-requires-3 : tie.Need-leaving-requires-3
 leaving-requires-3 c κs = search needs
 
 memory-note-requires : tie.Need-memory-note-requires
-memory-note-requires c κs = search needs
+memory-note-requires c κs =
+    let at-command-of = c .before in
+    let start = at-command-of .before .before .before .before in
+    let a = start .args in memory-word _ (a .session) (a .packet .now) _ (at-command-of .command-of .ensures) (start .pre .0) (c .match .keys5)
 
 ending-requires-2 : tie.Need-ending-requires-2
 ending-requires-2 c κs = search needs

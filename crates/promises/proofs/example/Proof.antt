@@ -1,4 +1,4 @@
-use Rattle.report.proofs.Example.{example}
+use Rattle.cases.proofs.Example.{example}
 use Rattle.promises.proofs.example.Statement.{statement}
 use Rattle.promises.proofs.example.Tie as tie
 

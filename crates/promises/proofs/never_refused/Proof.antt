@@ -1,4 +1,4 @@
-use Rattle.link_claims.proofs.Sound.{never-refused}
+use Rattle.link_claims.proofs.Refusals.{never-refused}
 use Rattle.promises.proofs.never_refused.Statement.{statement}
 use Rattle.promises.proofs.never_refused.Tie as tie
 

@@ -1,4 +1,4 @@
-use Rattle.link_claims.proofs.Frames.{reads-own}
+use Rattle.link_claims.proofs.Own.{reads-own}
 use Rattle.promises.proofs.reads_own.Statement.{statement}
 use Rattle.promises.proofs.reads_own.Tie as tie
 

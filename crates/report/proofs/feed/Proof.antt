@@ -1,16 +1,27 @@
--- The loader's contract, and the line of what it tells.
+-- Where a line fits, the loader's contract and the line of what it tells.
+use mathlib.Core.Path.{sym, _∙_}
+use borrow.Author.Tests.{leb-true}
+use Rattle.report.specs.Listing.{listStep, listedBy, full}
 use borrow.Author.Needs.{needs}
 use Rattle.report.proofs.feed.Statement.{statement}
 use Rattle.report.proofs.feed.Tie as tie
 
+has-space-requires : tie.Need-has-space-requires
+has-space-requires c κs = search needs
+
 feed-requires : tie.Need-feed-requires
 feed-requires c κs = search needs
 
-line-requires : tie.Need-line-requires
-line-requires c κs = search needs
+put-line-requires : tie.Need-put-line-requires
+put-line-requires c κs =
+    let at-if = c .before .before .before .before .before .before .before .before .before .before .before .before .before .before .before in
+    leb-true _ _ (sym (at-if .before .has-space .ensures) ∙ at-if .if1 .taken)
 
 next-number-requires : tie.Need-next-number-requires
 next-number-requires c κs = search needs
+
+listed-as-requires : tie.Need-listed-as-requires
+listed-as-requires c κs = search needs
 
 same-length : tie.Need-same-length
 same-length c = search needs
@@ -28,21 +39,37 @@ same-length-5 : tie.Need-same-length-5
 same-length-5 c = search needs
 
 returns : tie.Need-returns
+unfolding listStep listedBy
 returns c =
-    let at-line = c .before .before .before in
-    let at-feed = at-line .before .before .before .before .before .before .before .before .before .before .before in
-    record { hands-back = at-feed .feed .ensures .hands-back; counts = rw (← (at-feed .feed .ensures .says)) (c .next-number .ensures); appends = rw (← (at-feed .feed .ensures .says)) (at-line .line .ensures); packet-buffer = at-feed .feed .ensures .packet-buffer; answer-buffer = at-feed .feed .ensures .answer-buffer; in-flash = at-feed .feed .ensures .in-flash; in-words = at-feed .feed .ensures .in-words }
+    let at-put = c .before .before .before .before in
+    let at-feed = at-put .before .before .before .before .before .before .before .before .before .before .before in
+    let at-if = at-feed .before .before .before .before .before in
+    let fits = sym (at-if .before .has-space .ensures) ∙ at-if .if1 .taken in
+    let fed = at-feed .feed .ensures in
+    let put = rw (fed .says) at (at-put .put-line .ensures) in
+    let number = rw (fed .says) at (c .before .next-number .ensures) in
+    let listed = rw (fed .says) at (c .listed-as .ensures) in
+    record { says = rw (fits, listed, fed .hands-back, number, put .tells); packet-buffer = rw (fits, fed .packet-buffer); answer-buffer = rw (fits, fed .answer-buffer); in-flash = rw (fits, fed .in-flash); in-words = rw (fits, fed .in-words); in-text = rw (fits, put .leaves) }
+
+returns-2 : tie.Need-returns-2
+unfolding listStep full
+returns-2 c =
+    let no-space = sym (c .before .has-space .ensures) ∙ c .if1 .left in
+    record { says = rw no-space; packet-buffer = rw no-space; answer-buffer = rw no-space; in-flash = rw no-space; in-words = rw no-space; in-text = rw no-space }
 
 pub feed-spec : {M : Type 1} → statement M
 feed-spec =
     tie.close
     (tie.spec
+    has-space-requires
     feed-requires
-    line-requires
+    put-line-requires
     next-number-requires
+    listed-as-requires
     same-length
     same-length-2
     same-length-3
     same-length-4
     same-length-5
-    returns)
+    returns
+    returns-2)

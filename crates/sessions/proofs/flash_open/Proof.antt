@@ -1,3 +1,4 @@
+use mathlib.Core.Path.{refl}
 use Rattle.sessions.specs.Session.{flashOpen}
 use borrow.Author.Needs.{needs}
 use Rattle.sessions.proofs.flash_open.Statement.{statement}
@@ -14,15 +15,15 @@ enum-told-3 c = search needs
 
 returns : tie.Need-returns
 unfolding flashOpen
-returns c = rw (c .enum-told .given .1)
+returns c = rw (c .enum-told .given .1) refl
 
 returns-2 : tie.Need-returns-2
 unfolding flashOpen
-returns-2 c = rw (c .enum-told2 .given .1)
+returns-2 c = rw (c .enum-told2 .given .1) refl
 
 returns-3 : tie.Need-returns-3
 unfolding flashOpen
-returns-3 c = rw (c .enum-told3 .given .1)
+returns-3 c = rw (c .enum-told3 .given .1) refl
 
 pub flash-open-spec : {M : Type 1} → statement M
 flash-open-spec =

@@ -1,6 +1,6 @@
 use mathlib.Core.Path.{refl}
 use Rattle.sessions.specs.Errors.{dataChecks}
-use Rattle.lists.specs.Checks.{first}
+use Rattle.lists.proofs.Tests.{row, no-row}
 use borrow.Author.Needs.{needs}
 use Rattle.sessions.proofs.errors.data_error.Statement.{statement}
 use Rattle.sessions.proofs.errors.data_error.Tie as tie
@@ -54,7 +54,7 @@ check-requires-8 : tie.Need-check-requires-8
 check-requires-8 c κs = search needs
 
 returns : tie.Need-returns
-unfolding dataChecks first
+unfolding dataChecks
 returns c =
     let at-check6 = c .before .before in
     let at-check5 = at-check6 .before in
@@ -70,7 +70,14 @@ returns c =
     let at-data-shape-good = at-word-at .before in
     let at-accepted-by = at-data-shape-good .before in
     let at-announced-by = at-accepted-by .before in
-    rw (c .check8 .ensures, c .before .check7 .ensures, at-check6 .check6 .ensures, at-check5 .check5 .ensures, at-check4 .check4 .ensures, at-check3 .check3 .ensures, at-check2 .check2 .ensures, at-check .check .ensures, at-padding-good .padding-good .ensures, at-sum-good .sum-good .ensures, at-word-at2 .word-at2 .ensures, at-zero-words-good .zero-words-good .ensures, at-word-at .word-at .ensures, at-data-shape-good .data-shape-good .ensures, at-accepted-by .accepted-by .ensures, at-announced-by .announced-by .ensures) refl
+    row (c .before .check7 .result) _ _ _ (rw (c .check8 .ensures, at-data-shape-good .data-shape-good .ensures) refl)
+    (row (at-check6 .check6 .result) _ _ _ (rw (c .before .check7 .ensures) refl)
+    (row (at-check5 .check5 .result) _ _ _ (rw (at-check6 .check6 .ensures, at-word-at .word-at .ensures, at-announced-by .announced-by .ensures) refl)
+    (row (at-check4 .check4 .result) _ _ _ (rw (at-check5 .check5 .ensures, at-zero-words-good .zero-words-good .ensures) refl)
+    (row (at-check3 .check3 .result) _ _ _ (rw (at-check4 .check4 .ensures, at-accepted-by .accepted-by .ensures, at-announced-by .announced-by .ensures) refl)
+    (row (at-check2 .check2 .result) _ _ _ (rw (at-check3 .check3 .ensures, at-word-at2 .word-at2 .ensures, at-accepted-by .accepted-by .ensures) refl)
+    (row (at-check .check .result) _ _ _ (rw (at-check2 .check2 .ensures, at-sum-good .sum-good .ensures) refl)
+    (row 0 _ _ _ (rw (at-check .check .ensures, at-padding-good .padding-good .ensures, at-accepted-by .accepted-by .ensures, at-announced-by .announced-by .ensures) refl) no-row)))))))
 
 pub data-error-spec : {M : Type 1} → statement M
 data-error-spec =

@@ -151,7 +151,7 @@ unfolding checks kind
 returns-10 c = error-at _ _ _ 0x0D _ _ (c .before .before .before .before .before .command-of .ensures) (c .before .before .before .before .match .keys10) (rw (c .plain-error6 .ensures, c .before .attach-good .ensures, c .before .before .word-at2 .ensures, c .before .before .before .shape-good8 .ensures) refl)
 
 returns-11 : tie.Need-returns-11
-returns-11 c = error-none _ _ _ _ (c .before .command-of .ensures) (kind-none _ (c .match .rest))
+returns-11 c = rw (error-none _ _ _ _ (c .before .command-of .ensures) (kind-none _ (c .match .rest))) refl
 
 pub error-of-spec : {M : Type 1} → statement M
 error-of-spec =

@@ -1,0 +1,53 @@
+-- The theorem of specs/Count: n*b from S up to less than S + b has one n, and that is S/b rounded up.
+use Prim.Native.Nat.{ℕ, _+_, _*_, _/_, _%_, _≤_, _<_}
+use mathlib.Core.Path.{_≡_, refl}
+use mathlib.Core.Bool.{Bool, true, false, cond, _&&_}
+use native.Mathlib.Nat.{mul-le-mul-right, div-add-mod', mod-lt}
+use native.Mathlib.Omega.{arith}
+use borrow.Author.Tests.{leb-true, leb-false, le-leb, lt-leb, lt-ltb, le-ltb, eq-eqb, ne-eqb, eqb-true, eqb-false}
+use lib.Dec.{leb, ltb, eqb}
+use Rattle.begins.specs.Begin.{counted}
+use Rattle.begins.specs.Count.{dividedUp, CountIsDividedUp}
+use Rattle.begins.proofs.Sectors.{next-block}
+
+-- m*b reaches S, and is less than b past it
+record Fills (s b m : ℕ) : Type 0 where
+  enough : s ≤ m * b
+  tight : m * b < s + b
+
+by-test : (s b : ℕ) (t : Bool) {m n : ℕ} → (t ≡ true → Fills s b m) → (t ≡ false → Fills s b n) → Fills s b (cond t m n)
+by-test s b true f g = f refl
+by-test s b false f g = g refl
+
+up : (s b : ℕ) → 1 ≤ b → Fills s b (dividedUp s b)
+unfolding dividedUp
+up s b h =
+    let d = div-add-mod' s b in
+    let e = next-block (s / b) b in
+    let l = mod-lt s {m = b} (omega arith) in
+    by-test s b (eqb (s % b) 0)
+    (λ t. let z = eqb-true (s % b) 0 t in record { enough = omega arith; tight = omega arith })
+    (λ t. let z = eqb-false (s % b) 0 t in record { enough = omega arith; tight = omega arith })
+
+-- no other n does
+alone : (s b m n : ℕ) → Fills s b m → (leb s (n * b) && ltb (n * b) (s + b)) ≡ eqb n m
+alone s b m n f = go (leb n m) (leb m n) refl refl
+  where
+    go : (t u : Bool) → leb n m ≡ t → leb m n ≡ u → (leb s (n * b) && ltb (n * b) (s + b)) ≡ eqb n m
+    go true true p q =
+        let e : n ≡ m = omega (arith, leb-true n m p, leb-true m n q) in
+        rw (e, le-leb s (m * b) (f .enough), lt-ltb (m * b) (s + b) (f .tight), eq-eqb m m refl)
+    go true false p q =
+        let h = leb-false m n q in
+        let l = mul-le-mul-right {m = n + 1} {n = m} b (omega arith) in
+        let e = next-block n b in
+        rw (lt-leb s (n * b) (omega arith), ne-eqb n m (λ e. omega arith))
+    go false u p q =
+        let h = leb-false n m p in
+        let l = mul-le-mul-right {m = m + 1} {n = n} b (omega arith) in
+        let e = next-block m b in
+        rw (le-leb s (n * b) (omega arith), le-ltb (n * b) (s + b) (omega arith), ne-eqb n m (λ e. omega arith))
+
+pub count-is-divided-up : CountIsDividedUp
+unfolding counted
+count-is-divided-up g h = alone (g .size) (g .block) (dividedUp (g .size) (g .block)) (g .count) (up (g .size) (g .block) h)

@@ -1,0 +1,15 @@
+-- "n = S/b rounded up", written with the division.
+use mathlib.Core.Path.{_≡_}
+use mathlib.Core.Bool.{cond}
+use Prim.Native.Nat.{ℕ, _+_, _/_, _%_, _≤_}
+use lib.Dec.{eqb}
+use Rattle.begins.specs.Begin.{counted}
+use Rattle.begins.specs.declared.Begin.{Begin}
+
+-- S/b rounded up: the quotient, and one more where the division leaves a rest
+unfoldable pub dividedUp : ℕ → ℕ → ℕ
+dividedUp s b = cond (eqb (s % b) 0) (s / b) (s / b + 1)
+
+-- for every BEGIN with b from 1, the count is good exactly where it is S/b rounded up
+abbrev pub CountIsDividedUp : Type 0
+CountIsDividedUp = (g : Begin) → 1 ≤ g .block → counted g ≡ eqb (g .count) (dividedUp (g .size) (g .block))

@@ -1,0 +1,40 @@
+-- The statement of specs/Witness, by working it out.
+use mathlib.Core.Path.{_≡_, refl}
+use mathlib.Core.List.{List, [], _∷_}
+use mathlib.Core.Bool.{true}
+use Prim.Native.Nat.{_≤_}
+use native.Mathlib.Omega.{arith}
+use borrow.Author.Tests.{le-leb}
+use Rattle.lists.specs.Bytes.{allAre}
+use Rattle.fields.specs.Words.{word, half}
+use Rattle.fields.specs.Checksum.{xored, checksum}
+use Rattle.framing.specs.Frame.{framed, escaped}
+use Rattle.framing.specs.Packets.{Packet, read, packets, stretches, ended, onto, nonempty, classify, contents, bounded, unescape, escape, push, header}
+use Rattle.begins.specs.Begin.{beginOf, roundUp, counted, flashRule}
+use Rattle.begins.specs.declared.Lengths.{Lengths}
+use Rattle.commands.specs.Header.{command, sized, shaped, dataShaped}
+use Rattle.commands.specs.Block.{payload, zeroWords, sumGood, padding, paddingGood}
+use Rattle.commands.specs.Parameters.{flashEndRule}
+use Rattle.history.specs.Grammar.{flashBegin, goodBlock, flashEnd, begins, packet, block, end}
+use Rattle.history.proofs.Reader.{none-yet}
+use Rattle.history.specs.Witness.{workedBegin, workedBlock, workedEnd, workedLine, WorkedFits}
+
+pub worked-packets : packets workedLine ≡ read workedBegin ∷ read workedBlock ∷ read workedEnd ∷ []
+unfolding workedBegin workedBlock workedEnd workedLine framed escaped packets stretches ended onto nonempty classify contents bounded unescape escape push header
+worked-packets = refl
+
+worked-begin : (l : Lengths) → 4096 ≤ l .flash → flashBegin l (read workedBegin) ≡ true
+unfolding workedBegin flashBegin command shaped sized half word beginOf flashRule counted roundUp
+worked-begin l h = le-leb 4096 (l .flash) h
+
+abbrev worked : List Packet
+worked = read workedBegin ∷ read workedBlock ∷ read workedEnd ∷ []
+
+pub worked-fits : WorkedFits
+unfolding workedBegin workedBlock workedEnd packet begins beginOf goodBlock flashEnd command shaped sized dataShaped half word payload zeroWords sumGood checksum xored padding paddingGood allAre flashEndRule
+worked-fits l h = rw worked-packets
+    (record {
+      good = worked-begin l h;
+      chain = block {k = 0} (omega arith) (none-yet l worked _ 0) refl (end refl (none-yet l worked _ 1) refl);
+      at-last = refl;
+    })
