@@ -11,6 +11,7 @@ use Rattle.lists.specs.Checks.{first}
 use Rattle.lists.proofs.Laws.{lay-lay, length-lay}
 use Rattle.fields.specs.Words as words
 use Rattle.framing.specs.Frame.{longest, escaped, framed}
+use Rattle.answers.specs.Reply.{longestAnswer}
 use Rattle.framing.specs.Packets.{header}
 use Rattle.commands.specs.Header.{command, sized, shaped}
 use Rattle.commands.specs.Parameters.{syncRule}
@@ -65,7 +66,7 @@ module _ (r : Lending) where
   unfolding lineOf decimal digits numberAfter toldOf header handle lines
   third = packet-lines (idle-after sync-idle (endPacket 0) (omega arith) (omega arith)) (0x55 ∷ []) (omega arith) (omega arith) [] 3
 
-own-lengths : bufferLengths (replicate 4120 0) (replicate 22 0) (replicate 0x10000 0xFF) (replicate 4096 0)
+own-lengths : bufferLengths (replicate longest 0) (replicate longestAnswer 0) (replicate 0x10000 0xFF) (replicate 4096 0)
     ≡ record { packet = 4120; answer = 22; flash = 0x10000; words = 4096 }
 own-lengths = simp length-replicate
 

@@ -5,6 +5,8 @@ use Prim.Native.Nat.{ℕ, _+_, _≤_}
 use lib.ListN.{length, replicate}
 use Rattle.lists.specs.Lay.{lay}
 use Rattle.lists.specs.Checks.{first}
+use Rattle.framing.specs.Frame.{longest}
+use Rattle.answers.specs.Reply.{longestAnswer}
 use Rattle.loader.specs.Refusals.{bufferChecks}
 use Rattle.loader.specs.Step.{bufferLengths}
 use Rattle.report.specs.Numbers.{decimal}
@@ -40,6 +42,6 @@ pub record Example : Type 0 where
       (listed (opened r buffer) (framedAll (syncPacket 36 32 ∷ endPacket 0 ∷ (0x55 ∷ []) ∷ [])))
   -- "64 KiB of 0xFF flash and 4,096 zero words": these are let pass, with a packet buffer of 4,120 bytes and an answer buffer of 22
   pub own-buffers :
-      first (bufferChecks (bufferLengths (replicate 4120 0) (replicate 22 0) (replicate 0x10000 0xFF) (replicate 4096 0))) ≡ 0
+      first (bufferChecks (bufferLengths (replicate longest 0) (replicate longestAnswer 0) (replicate 0x10000 0xFF) (replicate 4096 0))) ≡ 0
   -- numbers are decimal
   pub tenth : decimal 10 ≡ 49 ∷ 48 ∷ []

@@ -47,7 +47,7 @@ unfoldable pub sentCount : Told → ℕ
 sentCount (refused n) = 0
 sentCount taken = 0
 sentCount (dropped n) = 0
-sentCount (answered n c s e sent note) = sent
+sentCount (answered n c s e sent order) = sent
 
 -- the bytes that the last call of a line sends, from a fresh loader on
 unfoldable pub sends : Lending → List ℕ → List ℕ

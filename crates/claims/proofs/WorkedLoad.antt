@@ -1,16 +1,17 @@
 -- The worked load, by demand 3.
 use mathlib.Core.Path.{_≡_, refl, sym, ap, _∙_}
 use mathlib.Core.List.{List, [], _∷_, _++_}
-use Prim.Native.Nat.{ℕ, _+_, _≤_}
+use mathlib.Core.Bool.{true}
+use Prim.Native.Nat.{ℕ, _+_, _-_, _≤_}
 use native.Mathlib.Omega.{arith}
 use borrow.Author.Tests.{le-leb, eq-eqb}
 use lib.ListN.{length, take, replicate, length-append}
 use lib.Seq.{take-at, take-all, take-add, getD-at}
 use Rattle.lists.proofs.Tests.{passed-first}
 use Rattle.fields.specs.Words.{word}
-use Rattle.framing.specs.Frame.{framed, escaped}
+use Rattle.framing.specs.Frame.{longest, framed, escaped}
 use Rattle.framing.specs.Packets.{Packet, read, packets, stretches, ended, onto, nonempty}
-use Rattle.begins.specs.Begin.{beginOf, roundUp}
+use Rattle.begins.specs.Begin.{sector, beginOf, roundUp}
 use Rattle.commands.specs.Block.{payload}
 use Rattle.loader.specs.Refusals.{bufferChecks, flashLength, wordCount}
 use Rattle.loader.specs.Step.{Told, refused, taken, dropped, answered}
@@ -41,13 +42,13 @@ unfolding EachCall after next
 flash-length-after m [] c e = e .0 .flash-length
 flash-length-after m (d ∷ cs) c e = flash-length-after (next m d) cs c (e .1) ∙ e .0 .flash-length
 
-long-pass : (buffer flash words : List ℕ) (cs : List Call) → 4120 ≤ length buffer → length flash ≡ 4096 → 1 ≤ length words
-    → length words ≤ 16384 → LongAnswers cs → AllPass (start buffer flash words) cs
-unfolding LongAnswers passes start bufferChecks flashLength wordCount
-long-pass buffer flash words [] b f w v a = tt
-long-pass buffer flash words (c ∷ cs) b f w v a = (
-  eq-eqb _ 0 (passed-first _ (le-leb _ _ b, (le-leb _ _ (a .0), (rw f refl, (rw (le-leb _ _ w, le-leb _ _ v) refl, tt))))),
-  long-pass buffer flash words cs b f w v (a .1),
+long-pass : (buffer flash words : List ℕ) (cs : List Call) → longest ≤ length buffer → length flash ≡ sector → wordCount (length words) ≡ true
+    → LongAnswers cs → AllPass (start buffer flash words) cs
+unfolding LongAnswers passes start bufferChecks flashLength
+long-pass buffer flash words [] b f w a = tt
+long-pass buffer flash words (c ∷ cs) b f w a = (
+  eq-eqb _ 0 (passed-first _ (le-leb _ _ b, (le-leb _ _ (a .0), (rw f refl, (w, tt))))),
+  long-pass buffer flash words cs b f w (a .1),
 )
 
 -- the closing call at a place is the last call's, where the calls before it closed that many packets
@@ -72,13 +73,13 @@ abbrev ps : List Packet
 ps = read workedBegin ∷ read workedBlock ∷ read workedEnd ∷ []
 
 -- a load of the worked choice: flash of one sector
-loaded-byte : (before f : List ℕ) → length f ≡ 4096 → Loaded (begins (packet ps 0)) (image ps (1 ∷ [])) before f → f ≡ 0xC0 ∷ replicate 4095 0xFF
+loaded-byte : (before f : List ℕ) → length f ≡ sector → Loaded (begins (packet ps 0)) (image ps (1 ∷ [])) before f → f ≡ 0xC0 ∷ replicate (sector - 1) 0xFF
 unfolding workedBegin workedBlock packet begins beginOf word roundUp image carries payload
 loaded-byte before f n l =
-    sym (take-all 4096 f (omega arith)) ∙ take-add 1 4095 f ∙ rw (l .announced, l .erased)
+    sym (take-all sector f (omega arith)) ∙ take-add 1 (sector - 1) f ∙ rw (l .announced, l .erased)
 
-module _ (buffer flash words : List ℕ) (cs : List Call) (c : Call) (b : 4120 ≤ length buffer) (f : length flash ≡ 4096)
-    (w : 1 ≤ length words) (v : length words ≤ 16384) (long : LongAnswers (cs ++ c ∷ [])) (line : bytes (cs ++ c ∷ []) ≡ workedLine) where
+module _ (buffer flash words : List ℕ) (cs : List Call) (c : Call) (b : longest ≤ length buffer) (f : length flash ≡ sector)
+    (w : wordCount (length words) ≡ true) (long : LongAnswers (cs ++ c ∷ [])) (line : bytes (cs ++ c ∷ []) ≡ workedLine) where
   abbrev m : Machine
   m = start buffer flash words
 
@@ -95,7 +96,7 @@ module _ (buffer flash words : List ℕ) (cs : List Call) (c : Call) (b : 4120 �
   front = demand3 buffer flash words cs
 
   all-pass : AllPass m (cs ++ c ∷ [])
-  all-pass = long-pass buffer flash words (cs ++ c ∷ []) b f w v long
+  all-pass = long-pass buffer flash words (cs ++ c ∷ []) b f w long
 
   grammar : Grammatical (record { flash = length flash; words = length words }) ps (closingCalls m cs ++ closingCall told flashAfter)
   grammar = rw (all-line m (cs ++ c ∷ []) (whole .each-call) all-pass ∙ line, worked-packets, closing-front m cs c) at (whole .grammatical)
@@ -125,4 +126,4 @@ module _ (buffer flash words : List ℕ) (cs : List Call) (c : Call) (b : 4120 �
   }
 
 pub worked-load : WorkedLoad
-worked-load buffer flash words cs c b f w v long line = worked buffer flash words cs c b f w v long line
+worked-load buffer flash words cs c b f w long line = worked buffer flash words cs c b f w long line

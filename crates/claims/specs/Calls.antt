@@ -62,7 +62,7 @@ unfoldable pub closingCall : Told → List ℕ → List ClosingCall
 closingCall (refused n) flash = []
 closingCall taken flash = []
 closingCall (dropped n) flash = record { told = dropped n; flash = flash } ∷ []
-closingCall (answered n c s e sent note) flash = record { told = answered n c s e sent note; flash = flash } ∷ []
+closingCall (answered n c s e sent order) flash = record { told = answered n c s e sent order; flash = flash } ∷ []
 
 -- the calls that close a packet, in order
 unfoldable pub closingCalls : Machine → List Call → List ClosingCall
@@ -78,7 +78,7 @@ unfoldable pub endsWell : Told → Bool
 endsWell (refused n) = false
 endsWell taken = false
 endsWell (dropped n) = false
-endsWell (answered n c s e sent note) = eqb c FLASH-END && (eqb s 0 && eqb e 0)
+endsWell (answered n c s e sent order) = eqb c FLASH-END && (eqb s 0 && eqb e 0)
 
 -- the answer buffer where a command was answered: the answer with the command, status and error told, framed at its front, and its length told
 pub record AnswerSent (command status error sent : ℕ) (before after : List ℕ) : Type 0 where
@@ -93,7 +93,7 @@ unfoldable pub Sent : Told → List ℕ → List ℕ → Type 0
 Sent (refused n) before after = after ≡ before
 Sent taken before after = after ≡ before
 Sent (dropped n) before after = after ≡ before
-Sent (answered n c s e sent note) before after = AnswerSent c s e sent before after
+Sent (answered n c s e sent order) before after = AnswerSent c s e sent before after
 
 -- what is claimed of one call: it takes its byte where refusals 1 to 4 let it pass, it sends what it tells, and every buffer keeps its length
 pub record Called (m : Machine) (c : Call) : Type 0 where

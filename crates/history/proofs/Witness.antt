@@ -10,7 +10,7 @@ use Rattle.fields.specs.Words.{word, half}
 use Rattle.fields.specs.Checksum.{xored, checksum}
 use Rattle.framing.specs.Frame.{framed, escaped}
 use Rattle.framing.specs.Packets.{Packet, read, packets, stretches, ended, onto, nonempty, classify, contents, bounded, unescape, escape, push, header}
-use Rattle.begins.specs.Begin.{beginOf, roundUp, counted, flashRule}
+use Rattle.begins.specs.Begin.{sector, beginOf, roundUp, counted, flashRule}
 use Rattle.begins.specs.declared.Lengths.{Lengths}
 use Rattle.commands.specs.Header.{command, sized, shaped, dataShaped}
 use Rattle.commands.specs.Block.{payload, zeroWords, sumGood, padding, paddingGood}
@@ -23,9 +23,9 @@ pub worked-packets : packets workedLine ≡ read workedBegin ∷ read workedBloc
 unfolding workedBegin workedBlock workedEnd workedLine framed escaped packets stretches ended onto nonempty classify contents bounded unescape escape push header
 worked-packets = refl
 
-worked-begin : (l : Lengths) → 4096 ≤ l .flash → flashBegin l (read workedBegin) ≡ true
+worked-begin : (l : Lengths) → sector ≤ l .flash → flashBegin l (read workedBegin) ≡ true
 unfolding workedBegin flashBegin command shaped sized half word beginOf flashRule counted roundUp
-worked-begin l h = le-leb 4096 (l .flash) h
+worked-begin l h = le-leb sector (l .flash) h
 
 abbrev worked : List Packet
 worked = read workedBegin ∷ read workedBlock ∷ read workedEnd ∷ []

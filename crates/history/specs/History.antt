@@ -22,4 +22,4 @@ handledAt hs i =
 -- a packet is answered as FLASH_END, with success
 unfoldable pub endSucceeds : Reply → Bool
 endSucceeds nothing = false
-endSucceeds (replied c e v note) = eqb c FLASH-END && eqb e 0
+endSucceeds (replied c e v order) = eqb c FLASH-END && eqb e 0

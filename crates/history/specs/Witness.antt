@@ -3,6 +3,7 @@ use mathlib.Core.List.{List, [], _∷_, _++_}
 use Prim.Native.Nat.{ℕ, _≤_}
 use Rattle.framing.specs.Frame.{framed}
 use Rattle.framing.specs.Packets.{packets}
+use Rattle.begins.specs.Begin.{sector}
 use Rattle.begins.specs.declared.Lengths.{Lengths}
 use Rattle.history.specs.Grammar.{Choice, Fits}
 
@@ -42,4 +43,4 @@ workedChoice = record { begin = 0; blocks = 1 ∷ []; last = 2 }
 
 -- Where flash has a sector, the packets of that line fit.
 abbrev pub WorkedFits : Type 0
-WorkedFits = (l : Lengths) → 4096 ≤ l .flash → Fits l (packets workedLine) workedChoice
+WorkedFits = (l : Lengths) → sector ≤ l .flash → Fits l (packets workedLine) workedChoice

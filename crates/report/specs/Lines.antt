@@ -38,7 +38,7 @@ unfoldable pub lineOf : ℕ → Told → List ℕ
 lineOf number (refused n) = []
 lineOf number taken = []
 lineOf number (dropped stored) = decimal number ++ fieldsOf dashes dashes dashes
-lineOf number (answered stored command status error sent note) =
+lineOf number (answered stored command status error sent order) =
     decimal number ++ fieldsOf (hex2 command) (hex2 status) (hex2 error)
 
 -- a number of 64 bits has at most 20 digits, and 10 bytes follow it

@@ -20,7 +20,7 @@ unfoldable pub numberAfter : Told → ℕ → ℕ
 numberAfter (refused n) number = number
 numberAfter taken number = number
 numberAfter (dropped stored) number = (number + 1) % 2 ^ 64
-numberAfter (answered stored command status error sent note) number = (number + 1) % 2 ^ 64
+numberAfter (answered stored command status error sent order) number = (number + 1) % 2 ^ 64
 
 -- what a call of the listing says: that its byte was not fed, for want of space; that the loader refused the call, with its number; or the next
 -- state and how many bytes of the text's buffer are used

@@ -1,4 +1,5 @@
-use Rattle.lists.proofs.Laws.{tests}
+use borrow.Author.Tests.{ne-eqb}
+use mathlib.Core.Path.{refl}
 use Rattle.link_frames.specs.Frames.{known}
 use Rattle.link_frames.proofs.is_known.Statement.{statement}
 use Rattle.link_frames.proofs.is_known.Tie as tie
@@ -25,7 +26,16 @@ returns-5 c = rw (c .match .keys5)
 
 returns-6 : tie.Need-returns-6
 unfolding known
-returns-6 c = search tests
+returns-6 c =
+    let kind = c .before .args .kind in
+    let none = c .match .rest in
+    rw (
+      ne-eqb kind 1 (none .0 .0 .0 .0 .1),
+      ne-eqb kind 2 (none .0 .0 .0 .1),
+      ne-eqb kind 3 (none .0 .0 .1),
+      ne-eqb kind 4 (none .0 .1),
+      ne-eqb kind 5 (none .1),
+    ) refl
 
 pub is-known-spec : {M : Type 1} → statement M
 is-known-spec = tie.close (tie.spec returns returns-2 returns-3 returns-4 returns-5 returns-6)
