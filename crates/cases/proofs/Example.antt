@@ -10,72 +10,91 @@ use Rattle.lists.specs.Bytes.{sameBytes, allAre}
 use Rattle.lists.specs.Checks.{first}
 use Rattle.lists.proofs.Laws.{lay-lay, length-lay}
 use Rattle.fields.specs.Words as words
-use Rattle.framing.specs.Frame.{longest, escaped, framed}
+use Rattle.framing.specs.Frame.{longest}
 use Rattle.answers.specs.Reply.{longestAnswer}
 use Rattle.framing.specs.Packets.{header}
 use Rattle.commands.specs.Header.{command, sized, shaped}
 use Rattle.commands.specs.Parameters.{syncRule}
 use Rattle.sessions.specs.Errors.{kind, plainChecks, endChecks, checks, errorOf}
 use Rattle.sessions.specs.Session.{flashOpen}
+use Rattle.effects.specs.Core.{Core}
 use Rattle.effects.specs.Effects.{effect}
 use Rattle.effects.specs.Handle.{carriedOut, failed, handle}
 use Rattle.loader.specs.Refusals.{bufferChecks, flashLength, wordCount}
-use Rattle.loader.specs.Step.{Step, bufferLengths, toldOf}
+use Rattle.loader.specs.Step.{bufferLengths, toldOf}
+use Rattle.claims.specs.HoweverCut.{joined}
 use Rattle.report.specs.Numbers.{digits, decimal}
 use Rattle.report.specs.Lines.{heading, longestLine, lineOf}
 use Rattle.report.specs.Listing.{numberAfter}
-use Rattle.cases.specs.Feeding.{Lending, begun, fed, framedAll}
+use Rattle.cases.specs.Feeding.{Lending, begun, framedAll}
 use Rattle.cases.specs.Packets.{syncPacket, endPacket}
-use Rattle.cases.specs.Listing.{opened, listed}
+use Rattle.cases.specs.Listing.{opened, listed, listedRuns}
 use Rattle.cases.specs.Example.{line1, line2, line3, Prints, Example}
-use Rattle.cases.proofs.Fed.{freshCore, Idle, idle-fresh, idle-after}
-use Rattle.cases.proofs.Listing.{lines, lines-listed, packet-lines}
+use Rattle.cases.proofs.Fed.{freshCore, idle-fresh}
+use Rattle.cases.proofs.Listing.{toldFor, lines, Fit, Adds, lines-listed}
+use Rattle.cases.proofs.Enough.{enough}
+use Rattle.cases.proofs.Cuts.{runs-listed}
 
 -- lines behind the heading
-below-heading : (r : Lending) (buffer bytes text : List ℕ) → lines 1 (begun r) bytes ≡ text
-    → length (heading ++ text) + longestLine ≤ length buffer → Prints (heading ++ text) buffer (listed (opened r buffer) bytes)
-unfolding opened begun
-below-heading r buffer bytes text e h =
+below-heading : (r : Lending) (buffer : List ℕ) (ps : List (List ℕ)) (text : List ℕ) → Fit ps → lines 1 (freshCore r) ps ≡ text
+    → (runs : List (List ℕ)) → joined runs ≡ framedAll ps
+    → length (heading ++ text) + longestLine ≤ length buffer → Prints (heading ++ text) buffer (listedRuns (opened r buffer) runs)
+unfolding opened begun listed
+below-heading r buffer ps text fit e runs cut h =
     let k = length-lay buffer 0 heading (omega arith) in
-    let p = lines-listed bytes (begun r) 1 (lay buffer 0 heading) 24 (rw e (omega arith)) in
-    record { in-text = p .in-text ∙ rw e (lay-lay buffer 0 heading text (omega arith)); is-used = p .is-used ∙ rw e (omega arith) }
+    let p : Adds (lines 1 (freshCore r) ps) (lay buffer 0 heading) (length heading) (listed (opened r buffer) (framedAll ps))
+    = lines-listed ps (idle-fresh r) fit 1 (lay buffer 0 heading) (length heading) (rw e (omega arith)) (length (framedAll ps)) (omega arith) in
+    rw (runs-listed runs (opened r buffer), cut)
+    (record { in-text = p .in-text ∙ rw e (lay-lay buffer 0 heading text (omega arith)); is-used = p .is-used ∙ rw e (omega arith) })
 
 module _ (r : Lending) where
-  sync-idle : Idle (fed (begun r) (framed (syncPacket 36 32))) (handle (freshCore r) (header (some (syncPacket 36 32))) .core)
-  sync-idle = idle-after (idle-fresh r) (syncPacket 36 32) (omega arith) (omega arith)
+  first-line : lineOf 1 (toldFor (freshCore r) (syncPacket 36 32)) ≡ line1
+  unfolding
+      lineOf decimal digits toldOf header handle carriedOut failed errorOf checks plainChecks first kind command shaped sized words.word words.half
+      syncRule sameBytes allAre effect
+  first-line = refl
 
-  -- the loader after the two packets
-  abbrev ended : Step
-  ended = fed (fed (begun r) (framed (syncPacket 36 32))) (framed (endPacket 0))
-
-  second-line : lineOf 2 (toldOf 12 (handle (freshCore r) (header (some (endPacket 0))) .reply)) ≡ line2
+  second-line : lineOf 2 (toldFor (freshCore r) (endPacket 0)) ≡ line2
   unfolding
       lineOf decimal digits toldOf header handle carriedOut failed errorOf checks endChecks first kind command shaped sized words.word words.half flashOpen
   second-line = refl
 
-  two : (more : List ℕ) → lines 1 (begun r) (framed (syncPacket 36 32) ++ (framed (endPacket 0) ++ more)) ≡ line1 ++ (line2 ++ lines 3 ended more)
-  unfolding
-      lineOf decimal digits numberAfter toldOf header handle carriedOut failed errorOf checks plainChecks endChecks first kind
-      command shaped sized words.word words.half syncRule sameBytes allAre flashOpen effect
-  two more =
-      packet-lines (idle-fresh r) (syncPacket 36 32) (omega arith) (omega arith) (framed (endPacket 0) ++ more) 1
-      ∙ ap (λ x. line1 ++ x) (packet-lines sync-idle (endPacket 0) (omega arith) (omega arith) more 2)
-      ∙ ap (λ x. line1 ++ (x ++ lines 3 ended more)) second-line
+  -- the core after the two packets
+  abbrev ended : Core
+  ended = handle (handle (freshCore r) (header (some (syncPacket 36 32))) .core) (header (some (endPacket 0))) .core
 
-  third : lines 3 ended (framed (0x55 ∷ []) ++ []) ≡ line3
-  unfolding lineOf decimal digits numberAfter toldOf header handle lines
-  third = packet-lines (idle-after sync-idle (endPacket 0) (omega arith) (omega arith)) (0x55 ∷ []) (omega arith) (omega arith) [] 3
+  third-line : lineOf 3 (toldFor ended (0x55 ∷ [])) ≡ line3
+  unfolding lineOf decimal digits toldOf header handle
+  third-line = refl
+
+  third : lines 3 ended ((0x55 ∷ []) ∷ []) ≡ line3
+  unfolding lines
+  third = ap (λ x. x ++ []) third-line
+
+  two : (more : List (List ℕ)) → lines 1 (freshCore r) (syncPacket 36 32 ∷ endPacket 0 ∷ more) ≡ line1 ++ (line2 ++ lines 3 ended more)
+  unfolding
+      lines numberAfter toldOf header handle carriedOut failed errorOf checks plainChecks endChecks first kind
+      command shaped sized words.word words.half syncRule sameBytes allAre flashOpen effect
+  two more = ap (λ x. x ++ (lineOf 2 (toldFor (freshCore r) (endPacket 0)) ++ lines 3 ended more)) first-line ∙ ap (λ x. line1 ++ (x ++ lines 3 ended more)) second-line
 
 own-lengths : bufferLengths (replicate longest 0) (replicate longestAnswer 0) (replicate 0x10000 0xFF) (replicate 4096 0)
     ≡ record { packet = 4120; answer = 22; flash = 0x10000; words = 4096 }
 own-lengths = simp length-replicate
 
 pub example : Example
-unfolding framedAll lines decimal digits bufferChecks flashLength wordCount first
+unfolding lines Fit decimal digits bufferChecks flashLength wordCount first
 example =
     record {
-      as-printed = λ r buffer h. below-heading r buffer _ (line1 ++ line2) (two r []) h;
-      then-dropped = λ r buffer h. below-heading r buffer _ (line1 ++ (line2 ++ line3)) (two r (framed (0x55 ∷ []) ++ []) ∙ rw (third r)) h;
+      as-printed = λ r buffer.
+          below-heading r buffer (syncPacket 36 32 ∷ endPacket 0 ∷ []) (line1 ++ line2)
+          (omega arith, (omega arith, (omega arith, (omega arith, tt))))
+          (two r []);
+      then-dropped = λ r buffer.
+          below-heading r buffer (syncPacket 36 32 ∷ endPacket 0 ∷ (0x55 ∷ []) ∷ []) (line1 ++ (line2 ++ line3))
+          (omega arith, (omega arith, (omega arith, (omega arith, (omega arith, (omega arith, tt))))))
+          (two r ((0x55 ∷ []) ∷ []) ∙ ap (λ x. line1 ++ (line2 ++ x)) (third r));
+      however-cut = λ p runs. runs-listed runs p;
+      calls-enough = enough;
       own-buffers = ap (λ x. first (bufferChecks x)) own-lengths;
       tenth = refl;
     }

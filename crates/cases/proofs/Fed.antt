@@ -240,6 +240,10 @@ idle-after {s} {c} b p filled fits =
       opens = refl;
     }
 
+-- the next call is let pass
+pub idle-passes : {s : Step} {c : Core} → Idle s c → refusal (s .loader) (bufferLengths (s .packet) (s .answer) (s .flash) (s .words)) ≡ 0
+idle-passes {s} {c} b = rw (b .is) (unrefused (b .at) c (b .buffer) (b .answer) (b .allowed))
+
 -- what the calls of a framed packet tell: nothing before the last one
 pub idle-takes : {s : Step} {c : Core} → Idle s c → (p : List ℕ) → 1 ≤ length p → length p ≤ longest → Takes s (END ∷ escaped p)
 idle-takes {s} {c} b p filled fits = rw (b .is) (packet-takes (b .told) (b .at) c (b .buffer) (b .answer) (b .allowed) (b .opens) p filled fits)

@@ -3,5 +3,9 @@ pub mod Answers
 pub mod Blocks
 pub mod Linked
 pub mod Cases
+pub mod Runs
+pub mod Calls
 pub mod Listing
+pub mod Enough
+pub mod Cuts
 pub mod Example

@@ -1,105 +1,81 @@
--- The calls of the listing print the lines of what the loader tells, one behind the other.
-use mathlib.Core.Path.{_≡_, refl, sym, ap, _∙_}
-use mathlib.Core.List.{List, [], _∷_, _++_, append-assoc}
+-- The calls of the listing print the lines of the packets that the loader handles, one behind the other.
+use mathlib.Core.Path.{_≡_, refl, sym, _∙_}
+use mathlib.Core.List.{List, [], _∷_, _++_}
 use mathlib.Core.Option.{some}
-use mathlib.Core.Bool.{true}
-use Prim.Native.Nat.{ℕ, _+_, _≤_}
-use native.Mathlib.Nat.{add-zero, add-assoc}
+use Prim.Native.Nat.{ℕ, zero, suc, _+_, _≤_}
+use native.Mathlib.Nat.{add-zero}
 use native.Mathlib.Omega.{arith}
 use borrow.Author.Tests.{le-leb}
 use lib.ListN.{length, length-append}
+use lib.Seq.{drop-at}
 use Rattle.lists.specs.Lay.{lay}
 use Rattle.lists.proofs.Laws.{lay-nil, lay-lay, length-lay}
 use Rattle.framing.specs.Frame.{END, longest, escaped, framed}
 use Rattle.framing.specs.Packets.{header}
 use Rattle.effects.specs.Core.{Core}
 use Rattle.effects.specs.Handle.{handle}
-use Rattle.loader.specs.Step.{Step, Told, refused, taken, dropped, answered, refusing, toldOf, step}
-use Rattle.loader.proofs.Theorems.{refused-changes-nothing}
-use Rattle.report.specs.Lines.{longestLine, hasSpace, lineOf}
-use Rattle.report.specs.Listing.{numberAfter, reportOf, listStep, listedBy}
-use Rattle.cases.specs.Feeding.{called, fed}
-use Rattle.cases.specs.Listing as listing
-use Rattle.cases.specs.Listing.{Page, left, listed}
-use Rattle.cases.specs.Example.{Prints}
-use Rattle.cases.proofs.Fed.{Takes, Idle, fed-append, idle-takes, idle-told}
+use Rattle.loader.specs.Step.{Step, Told, toldOf}
+use Rattle.report.specs.Lines.{longestLine, lineOf}
+use Rattle.report.specs.Listing.{numberAfter}
+use Rattle.cases.specs.Feeding.{fed, framedAll}
+use Rattle.cases.specs.Listing.{Page, calls}
+use Rattle.cases.proofs.Fed.{Idle, idle-after, idle-passes, idle-told}
+use Rattle.cases.proofs.Runs.{packet-run}
+use Rattle.cases.proofs.Calls.{pageOf, fed-call}
 
--- the lines of the calls for these bytes, the first packet with this number
-unfoldable pub lines : ℕ → Step → List ℕ → List ℕ
-lines number s [] = []
-lines number s (b ∷ bs) = lineOf number (called s b .told) ++ lines (numberAfter (called s b .told) number) (called s b) bs
+-- what the call that closes a packet tells, where the core is c
+abbrev pub toldFor : Core → List ℕ → Told
+toldFor c p = toldOf (length p) (handle c (header (some p)) .reply)
 
--- a page over the loader's buffers
-abbrev pub pageOf : Step → ℕ → List ℕ → ℕ → Page
-pageOf s number text used =
-    record {
-      listing = record { loader = s .loader; number = number };
-      packet = s .packet;
-      answer = s .answer;
-      flash = s .flash;
-      words = s .words;
-      text = text;
-      used = used;
-    }
+-- the lines of packets that are handled one after the other, the first with this number
+unfoldable pub lines : ℕ → Core → List (List ℕ) → List ℕ
+lines number c [] = []
+lines number c (p ∷ ps) = lineOf number (toldFor c p) ++ lines (numberAfter (toldFor c p) number) (handle c (header (some p)) .core) ps
+
+-- packets that are not empty and fit the packet buffer
+unfoldable pub Fit : List (List ℕ) → Type 0
+Fit [] = Unit {0}
+Fit (p ∷ ps) = (1 ≤ length p) × ((length p ≤ longest) × Fit ps)
 
 -- so much text is laid behind the used bytes
 pub record Adds (added text : List ℕ) (used : ℕ) (p : Page) : Type 0 where
   pub in-text : p .text ≡ lay text used added
   pub is-used : p .used ≡ used + length added
 
--- a page after a call of the listing that fed its byte; a call that the loader refused leaves all as it was
-module _ (s : Step) (number : ℕ) (text : List ℕ) (used b : ℕ) where
-  abbrev next-page : Page
-  next-page =
-      pageOf (called s b) (numberAfter (called s b .told) number) (lay text used (lineOf number (called s b .told))) (used + length (lineOf number (called s b .told)))
+-- a framed packet is one call of the listing
+one-call : {s : Step} {c : Core} → Idle s c → (p : List ℕ) → 1 ≤ length p → length p ≤ longest
+    → (number : ℕ) (text : List ℕ) (used : ℕ) → used + longestLine ≤ length text → (more : List ℕ) (k : ℕ)
+    → calls (suc k) (pageOf s number text used) (framed p ++ more)
+    ≡ calls k
+    (pageOf (fed s (framed p)) (numberAfter (toldFor c p) number) (lay text used (lineOf number (toldFor c p))) (used + length (lineOf number (toldFor c p))))
+    more
+unfolding framed
+one-call {s} {c} i p filled fits number text used space more k =
+    fed-call (pageOf s number text used) (le-leb (used + longestLine) (length text) space) (idle-passes i) END ((escaped p ++ END ∷ []) ++ more) _
+    (packet-run i p filled fits more) k
+    ∙ rw (idle-told i p filled fits, drop-at (framed p) more (length (framed p)) refl)
 
-  by-told : (t : Told) → called s b .told ≡ t
-      → left (pageOf s number text used) (listedBy (called s b) number text used) (reportOf t (next-page .listing) (next-page .used)) ≡ next-page
-  unfolding listedBy left reportOf called lineOf numberAfter refusing
-  by-told (refused n) e =
-      let r = refused-changes-nothing (s .loader) b (s .packet) (s .answer) (s .flash) (s .words) .only n e .2 in
-      rw (r, lay-nil text used, add-zero used)
-  by-told taken e = refl
-  by-told (dropped n) e = refl
-  by-told (answered n c t e′ k o) e = refl
+none-left : (k : ℕ) (q : Page) → calls k q [] ≡ q
+unfolding calls
+none-left zero q = refl
+none-left (suc k) q = refl
 
-  listed-step : used + longestLine ≤ length text
-      → left (pageOf s number text used) (listing.called (pageOf s number text used) b) (listing.called (pageOf s number text used) b .said)
-      ≡ next-page
-  unfolding listing.called listStep listedBy called
-  listed-step h = rw (le-leb (used + longestLine) (length text) h) (by-told (called s b .told) refl)
-
-pub lines-listed : (bs : List ℕ) (s : Step) (number : ℕ) (text : List ℕ) (used : ℕ) → (used + length (lines number s bs)) + longestLine ≤ length text
-    → Adds (lines number s bs) text used (listed (pageOf s number text used) bs)
-unfolding listed lines
-lines-listed [] s number text used h = record { in-text = sym (lay-nil text used); is-used = sym (add-zero used) }
-lines-listed (b ∷ bs) s number text used h =
-    let line = lineOf number (called s b .told) in
-    let more = lines (numberAfter (called s b .told) number) (called s b) bs in
+-- packets, as many calls as they have bytes or more
+pub lines-listed : (ps : List (List ℕ)) {s : Step} {c : Core} → Idle s c → Fit ps → (number : ℕ) (text : List ℕ) (used : ℕ)
+    → (used + length (lines number c ps)) + longestLine ≤ length text → (k : ℕ) → length (framedAll ps) ≤ k
+    → Adds (lines number c ps) text used (calls k (pageOf s number text used) (framedAll ps))
+unfolding lines framedAll Fit framed
+lines-listed [] {s} {c} i fit number text used h k enough =
+    rw (none-left k (pageOf s number text used)) (record { in-text = sym (lay-nil text used); is-used = sym (add-zero used) })
+lines-listed (p ∷ ps) {s} {c} i fit number text used h zero enough = absurd (omega arith)
+lines-listed (p ∷ ps) {s} {c} i fit number text used h (suc k) enough =
+    let core = handle c (header (some p)) .core in
+    let line = lineOf number (toldFor c p) in
+    let then = numberAfter (toldFor c p) number in
+    let more = lines then core ps in
     let n = length-append line more in
-    let k = length-lay text used line (omega arith) in
-    let rest = lines-listed bs (called s b) (numberAfter (called s b .told) number) (lay text used line) (used + length line) (omega arith) in
-    rw (listed-step s number text used b (omega arith))
+    let m = length-append (escaped p ++ END ∷ []) (framedAll ps) in
+    let l = length-lay text used line (omega arith) in
+    let rest = lines-listed ps (idle-after i p (fit .0) (fit .1 .0)) (fit .1 .1) then (lay text used line) (used + length line) (omega arith) k (omega arith) in
+    rw (one-call i p (fit .0) (fit .1 .0) number text used (omega arith) (framedAll ps) k)
     (record { in-text = rest .in-text ∙ lay-lay text used line more (omega arith); is-used = rest .is-used ∙ omega arith })
-
-last-call : (s : Step) (p : List ℕ) → called (fed s (END ∷ escaped p)) END ≡ fed s (framed p)
-unfolding framed fed
-last-call s p = sym (fed-append s (END ∷ escaped p) (END ∷ []))
-
--- calls that close nothing print nothing
-takes-lines : (bs more : List ℕ) (s : Step) (number : ℕ) → Takes s bs → lines number s (bs ++ more) ≡ lines number (fed s bs) more
-unfolding Takes lines fed lineOf numberAfter
-takes-lines [] more s number t = refl
-takes-lines (b ∷ bs) more s number t =
-    ap (λ x. lineOf number x ++ lines (numberAfter x number) (called s b) (bs ++ more)) (t .0) ∙ takes-lines bs more (called s b) number (t .1)
-
--- a framed packet prints the line of what its last call tells
-pub packet-lines : {s : Step} {c : Core} → Idle s c → (p : List ℕ) → 1 ≤ length p → length p ≤ longest → (more : List ℕ) (number : ℕ)
-    → lines number s (framed p ++ more)
-    ≡ lineOf number (toldOf (length p) (handle c (header (some p)) .reply))
-    ++ lines (numberAfter (toldOf (length p) (handle c (header (some p)) .reply)) number) (fed s (framed p)) more
-unfolding framed lines
-packet-lines {s} {c} i p filled fits more number =
-    let last : called (fed s (END ∷ escaped p)) END ≡ fed s (framed p) = last-call s p in
-    rw (append-assoc (escaped p) (END ∷ []) more)
-    (takes-lines (END ∷ escaped p) (END ∷ more) s number (idle-takes i p filled fits) ∙ rw (last, idle-told i p filled fits))

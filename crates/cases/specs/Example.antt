@@ -9,11 +9,12 @@ use Rattle.framing.specs.Frame.{longest}
 use Rattle.answers.specs.Reply.{longestAnswer}
 use Rattle.loader.specs.Refusals.{bufferChecks}
 use Rattle.loader.specs.Step.{bufferLengths}
+use Rattle.claims.specs.HoweverCut.{joined}
 use Rattle.report.specs.Numbers.{decimal}
 use Rattle.report.specs.Lines.{heading, longestLine}
 use Rattle.cases.specs.Feeding.{Lending, framedAll}
 use Rattle.cases.specs.Packets.{syncPacket, endPacket}
-use Rattle.cases.specs.Listing.{Page, opened, listed}
+use Rattle.cases.specs.Listing.{Page, opened, calls, listed, listedRuns}
 
 -- "1 08 00 00", "2 04 01 C6", and "A dropped packet has `--` in its last three fields"
 abbrev pub line1 : List ℕ
@@ -30,16 +31,21 @@ pub record Prints (text buffer : List ℕ) (p : Page) : Type 0 where
   pub in-text : p .text ≡ lay buffer 0 text
   pub is-used : p .used ≡ length text
 
--- Said of a fresh listing with any buffers that refusals 1 to 4 let pass, whatever they hold, and any text's buffer that has space for these lines and one more.
+-- Said of a fresh listing with any buffers that refusals 1 to 4 let pass, whatever they hold, any text's buffer that has space for these lines and one more, and an input that comes in any blocks, cut anywhere, empty ones too.
 pub record Example : Type 0 where
   pub as-printed :
-      (r : Lending) (buffer : List ℕ) → length (heading ++ (line1 ++ line2)) + longestLine ≤ length buffer
-      → Prints (heading ++ (line1 ++ line2)) buffer (listed (opened r buffer) (framedAll (syncPacket 36 32 ∷ endPacket 0 ∷ [])))
+      (r : Lending) (buffer : List ℕ) (runs : List (List ℕ)) → joined runs ≡ framedAll (syncPacket 36 32 ∷ endPacket 0 ∷ [])
+      → length (heading ++ (line1 ++ line2)) + longestLine ≤ length buffer
+      → Prints (heading ++ (line1 ++ line2)) buffer (listedRuns (opened r buffer) runs)
   -- a packet of one byte behind them is dropped
   pub then-dropped :
-      (r : Lending) (buffer : List ℕ) → length (heading ++ (line1 ++ (line2 ++ line3))) + longestLine ≤ length buffer
-      → Prints (heading ++ (line1 ++ (line2 ++ line3))) buffer
-      (listed (opened r buffer) (framedAll (syncPacket 36 32 ∷ endPacket 0 ∷ (0x55 ∷ []) ∷ [])))
+      (r : Lending) (buffer : List ℕ) (runs : List (List ℕ)) → joined runs ≡ framedAll (syncPacket 36 32 ∷ endPacket 0 ∷ (0x55 ∷ []) ∷ [])
+      → length (heading ++ (line1 ++ (line2 ++ line3))) + longestLine ≤ length buffer
+      → Prints (heading ++ (line1 ++ (line2 ++ line3))) buffer (listedRuns (opened r buffer) runs)
+  -- where a block ends makes no difference, from every page and for every input
+  pub however-cut : (p : Page) (runs : List (List ℕ)) → listedRuns p runs ≡ listed p (joined runs)
+  -- no call is left out: more of them than there are bytes come to the same, from every page and for every input
+  pub calls-enough : (p : Page) (bytes : List ℕ) (n : ℕ) → calls (length bytes + n) p bytes ≡ listed p bytes
   -- "64 KiB of 0xFF flash and 4,096 zero words": these are let pass, with a packet buffer of 4,120 bytes and an answer buffer of 22
   pub own-buffers :
       first (bufferChecks (bufferLengths (replicate longest 0) (replicate longestAnswer 0) (replicate 0x10000 0xFF) (replicate 4096 0))) ≡ 0

@@ -6,14 +6,13 @@ use mathlib.Core.Option.{Option, none, some}
 use mathlib.Core.Logic.{inl, inr}
 use Prim.Native.Nat.{ℕ, _≤_}
 use native.Mathlib.Omega.{arith}
-use borrow.Author.Tests.{leb-true, eqb-true, eq-eqb}
-use lib.Dec.{eqb, leb}
+use borrow.Author.Tests.{leb-true, eq-eqb}
+use lib.Dec.{leb}
 use lib.ListN.{length, take, replicate, length-append}
 use lib.Seq.{take-at}
-use Rattle.lists.specs.Checks.{_orElse_}
 use Rattle.lists.specs.Lay.{lay}
-use Rattle.lists.proofs.Tests.{both, Passed, first-passed}
-use Rattle.framing.specs.Frame.{END, longest, escaped, framed, refused, wrote, refusal, framing}
+use Rattle.lists.proofs.Tests.{both}
+use Rattle.framing.specs.Frame.{END, longest, escaped, framed, refusal}
 use Rattle.framing.specs.Packets.{header}
 use Rattle.framing.specs.Line.{Closed, lineState, silent, stepOf}
 use Rattle.framing.specs.Run.{bufferAfter}
@@ -34,7 +33,7 @@ use Rattle.history.proofs.Lengths.{Sound}
 use Rattle.claims.specs.Calls.{Machine, Call, stepped, next, passes, closingCall, closingCalls}
 use Rattle.claims.specs.CallHistory.{coreAt}
 use Rattle.claims.specs.Arrives.{bytes, toldBy, after, Unrefused, Arrived, PacketArrives, FrameArrives}
-use Rattle.claims.proofs.Line.{Ready, buffers, refusal-is, long-enough, step-passes, closes-packet-one}
+use Rattle.claims.proofs.Passing.{Ready, buffers, refusal-is, long-enough, step-passes, closes-packet-one}
 
 -- refusals 1 to 4 let each call pass, by the lengths of the machine m
 abbrev pub AllPass : Machine → List Call → Type 0

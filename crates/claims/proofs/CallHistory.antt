@@ -1,4 +1,4 @@
--- The calls that close a packet are the packets of the line, handled one after the other.
+-- The calls that close a packet are the packets of the line, handled one after the other: of run calls, and so of byte calls.
 use mathlib.Core.Path.{_≡_, refl, ap}
 use mathlib.Core.List.{List, [], _∷_, map}
 use mathlib.Core.Option.{none}
@@ -14,9 +14,13 @@ use Rattle.sessions.specs.Session.{sessionGood}
 use Rattle.effects.specs.Core.{Core}
 use Rattle.effects.specs.Handle.{handle}
 use Rattle.history.specs.History.{history, handledAt}
-use Rattle.claims.specs.Calls.{Call, start, lineBytes, closingAt}
+use Rattle.claims.specs.Calls.{start, closingAt}
 use Rattle.claims.specs.CallHistory.{coreAt, storedAt, closingAs, CallsAreHistory}
-use Rattle.claims.proofs.Line.{closings, Follows, follows}
+use Rattle.claims.specs.RunCalls.{RunCall, lineTaken}
+use Rattle.claims.specs.RunHistory.{RunsAreHistory}
+use Rattle.claims.proofs.Passing.{closings}
+use Rattle.claims.proofs.RunLine.{FollowsRuns, law-first, runs-follow}
+use Rattle.claims.proofs.Line.{single, single-closings, single-line}
 
 closings-length : (c : Core) (ss : List (List ℕ)) → length (closings c (map closedAs ss)) ≡ length (map classify ss)
 unfolding closings
@@ -30,14 +34,21 @@ closings-at c [] i h = absurd (omega arith)
 closings-at c (s ∷ ss) zero h = refl
 closings-at c (s ∷ ss) (suc i) h = closings-at (handle c (classify s) .core) ss i (omega arith)
 
-pub from-start : (buffer flash words : List ℕ) (cs : List Call) → Follows (start buffer flash words) none cs
+pub from-start : (buffer flash words : List ℕ) (cs : List RunCall) → FollowsRuns (start buffer flash words) none [] cs
 unfolding start sessionGood attachGood
 from-start buffer flash words cs =
-    follows cs (start buffer flash words) none (record { pending = pend-fresh buffer; sound = record { session = refl; attach = refl } })
+    runs-follow cs (start buffer flash words) none []
+    (record { pending = pend-fresh buffer; sound = record { session = refl; attach = refl } }) law-first
+
+pub runs-are-history : RunsAreHistory
+unfolding todo packets storedAt
+runs-are-history buffer flash words cs =
+    let c = coreAt (start buffer flash words) in
+    let ss = stretches (lineTaken (start buffer flash words) cs) in
+    rw (from-start buffer flash words cs .closes) (record { one-for-one = closings-length c ss; each = λ i h. closings-at c ss i h })
 
 pub calls-are-history : CallsAreHistory
-unfolding todo packets storedAt
 calls-are-history buffer flash words cs =
-    let c = coreAt (start buffer flash words) in
-    let ss = stretches (lineBytes (start buffer flash words) cs) in
-    rw (from-start buffer flash words cs .closes) (record { one-for-one = closings-length c ss; each = λ i h. closings-at c ss i h })
+    let m = start buffer flash words in
+    rw (single-closings cs m, single-line cs m [] (from-start buffer flash words (map single cs) .each)) at
+    (runs-are-history buffer flash words (map single cs))

@@ -1,6 +1,6 @@
--- Demand 3: what holds over a history of packets holds of the calls that make it.
+-- Demand 3: what holds over a history of packets holds of the run calls that make it, and so of byte calls, which are run calls of one byte.
 use mathlib.Core.Path.{_≡_, refl}
-use mathlib.Core.List.{List}
+use mathlib.Core.List.{List, [], map}
 use mathlib.Core.Bool.{Bool, true, false, cond, _&&_}
 use Prim.Native.Nat.{ℕ, _<_}
 use lib.Dec.{eqb}
@@ -15,10 +15,13 @@ use Rattle.history.specs.History.{history, handledAt, endSucceeds}
 use Rattle.history.specs.Theorems.{FollowsGrammar}
 use Rattle.history.proofs.Agreement.{begin-below}
 use Rattle.history.proofs.Theorems.{packets-load}
-use Rattle.claims.specs.Calls.{start, lineBytes, ClosingCall, closingAt, endsWell}
+use Rattle.claims.specs.Calls.{start, ClosingCall, closingAt, endsWell}
 use Rattle.claims.specs.CallHistory.{coreAt, TellsHistory}
 use Rattle.claims.specs.Demand3.{Grammatical, Demand3}
-use Rattle.claims.proofs.CallHistory.{from-start, calls-are-history}
+use Rattle.claims.specs.RunCalls.{lineTaken}
+use Rattle.claims.specs.Demand3Runs.{Demand3Runs}
+use Rattle.claims.proofs.CallHistory.{from-start, runs-are-history}
+use Rattle.claims.proofs.Line.{single, take-singles, single-closings, single-line, single-each}
 
 -- a call tells the success of FLASH_END where its packet is so answered
 told-success : (n : ℕ) (r : Reply) → endsWell (toldOf n r) ≡ endSucceeds r
@@ -43,13 +46,25 @@ module _ (c : Core) (line : List ℕ) (hs : List ClosingCall) (t : TellsHistory 
     loads = λ i d h f. rw (flash-at i h, flash-at (d .begin) (begin-below (lengths c) (packets line) i d f)) at (p .loads i d h f);
   }
 
-pub demand3 : Demand3
+pub demand3-runs : Demand3Runs
 unfolding start flashOpen sessionGood
-demand3 buffer flash words cs = record {
+demand3-runs buffer flash words cs = record {
   each-call = from-start buffer flash words cs .each;
-  in-time = λ n. calls-are-history buffer flash words (take n cs) .one-for-one;
+  in-time = λ n. runs-are-history buffer flash words (take n cs) .one-for-one;
   grammatical =
-      whole (coreAt (start buffer flash words)) (lineBytes (start buffer flash words) cs) _
-      (calls-are-history buffer flash words cs)
-      (packets-load (coreAt (start buffer flash words)) refl refl (packets (lineBytes (start buffer flash words) cs)));
+      whole (coreAt (start buffer flash words)) (lineTaken (start buffer flash words) cs) _
+      (runs-are-history buffer flash words cs)
+      (packets-load (coreAt (start buffer flash words)) refl refl (packets (lineTaken (start buffer flash words) cs)));
 }
+
+pub demand3 : Demand3
+demand3 buffer flash words cs =
+    let m = start buffer flash words in
+    let h = demand3-runs buffer flash words (map single cs) in
+    record {
+      each-call = single-each cs m [] (h .each-call);
+      in-time = λ n.
+          let k = demand3-runs buffer flash words (map single (take n cs)) in
+          rw (take-singles n cs, single-closings (take n cs) m, single-line (take n cs) m [] (k .each-call)) at (h .in-time n);
+      grammatical = rw (single-closings cs m, single-line cs m [] (h .each-call)) at (h .grammatical);
+    }

@@ -1,6 +1,12 @@
 pub mod Values
+pub mod Passing
+pub mod RunLine
 pub mod Line
 pub mod CallHistory
 pub mod Demand3
+pub mod Feeding
+pub mod RunsAreBytes
+pub mod HoweverCut
 pub mod Arrives
+pub mod RunArrives
 pub mod WorkedLoad

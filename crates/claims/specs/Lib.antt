@@ -1,5 +1,12 @@
 pub mod Calls
 pub mod CallHistory
 pub mod Demand3
+pub mod RunCalls
+pub mod RunHistory
+pub mod Demand3Runs
+pub mod Feeding
+pub mod RunsAreBytes
+pub mod HoweverCut
 pub mod Arrives
+pub mod RunArrives
 pub mod WorkedLoad

@@ -31,7 +31,7 @@ fn say_refused() {
 }
 
 // Feeds what was read, and writes the lines of the packets that it closes: at the end, and before that where the text's buffer
-// is full, after which the byte that was not fed comes again.
+// is full, after which the bytes that were not fed come again. A call stops after a packet, so the rest is handed over until all is taken.
 fn list_run(
     listing: Listing,
     input: &[u8],
@@ -45,9 +45,9 @@ fn list_run(
     let mut state = listing;
     let mut i: usize = 0;
     while i < input.len() {
-        let listed = report::feed(
+        let listed = report::feed_run(
             state,
-            input[i],
+            &input[i..],
             packet,
             answer,
             flash,
@@ -73,10 +73,14 @@ fn list_run(
                     goes_on: false,
                 };
             }
-            Listed::Fed { listing, used } => {
+            Listed::Fed {
+                listing,
+                used,
+                taken,
+            } => {
                 state = listing;
                 filled = used;
-                i += 1;
+                i += taken;
             }
         }
     }

@@ -1,37 +1,38 @@
--- The ways through a call: refused, a byte taken, a packet dropped, or obeyed and answered.
+-- The ways through a call: refused, its bytes taken, a packet dropped, or obeyed and answered.
 use Prim.Native.Nat.{ℕ, _≤_}
 use mathlib.Core.Path.{_≡_, refl, sym, ap, _∙_}
-use mathlib.Core.List.{List, [], _∷_, _++_}
+use mathlib.Core.List.{List, [], _∷_}
 use mathlib.Core.Bool.{Bool, true, false, cond, _&&_}
-use mathlib.Core.Option.{some}
+use mathlib.Core.Option.{Option, none, some}
 use native.Mathlib.Omega.{arith}
-use borrow.Author.Tests.{leb-true, eq-eqb, ne-eqb}
+use borrow.Author.Tests.{eq-eqb, ne-eqb}
 use lib.Dec.{leb, eqb}
 use lib.ListN.{length, take, getD}
 use lib.Seq.{length-take-le}
-use Rattle.lists.specs.Checks.{_orElse_}
-use Rattle.lists.proofs.Tests.{both, Passed, first-passed}
-use Rattle.framing.specs.Frame.{longest}
 use Rattle.framing.specs.Packets.{Packet, dropped, read, header}
-use Rattle.framing.specs.Line.{Closed, stepOf, closedBy, Steps}
-use Rattle.framing.specs.declared.Stepped.{Stepped}
+use Rattle.framing.specs.Line.{Closed, Step as ByteStep, stepOf, closedBy}
 use Rattle.framing.specs.declared.Closing.the-variants.{Open, Whole, Broken}
-use Rattle.framing.proofs.Steps.{step-contents}
+use Rattle.runs.specs.Run.{still, stopped, ahead, stopOrGo, runOf, Runs}
+use Rattle.runs.specs.declared.Ran.{Ran}
+use Rattle.runs.proofs.Kept.{run-within}
 use Rattle.commands.specs.Header.{command}
 use Rattle.sessions.specs.Session.{sessionGood}
-use Rattle.loader.specs.Refusals.{BufferLengths, lengthsOf, bufferChecks, recordGood, refusal}
+use Rattle.loader.specs.Refusals.{refusal}
 use Rattle.answers.specs.Answer.{answerBytes}
 use Rattle.answers.specs.Reply.{longestAnswer, Replies}
 use Rattle.answers.proofs.Replies.{sent-whole, laid-whole}
 use Rattle.effects.specs.Core.{lengths}
 use Rattle.effects.specs.Handle.{handle, obeyed, Does}
 use Rattle.effects.proofs.Handled.{obeyed-handled}
-use Rattle.loader.specs.Step.{Feeds, step, refusing, afterByte, afterPacket, coreOf, bufferLengths, answerBuffer, toldOf}
+use Rattle.loader.specs.RunStep.{runStep, taking, refusingRun, FeedsRun}
+use Rattle.loader.specs.Step.{told, Feeds, step, refusing, afterByte, afterPacket, coreOf, bufferLengths, answerBuffer, toldOf}
 use Rattle.loader.specs.Parts.{classified, Acts}
 use Rattle.loader.specs.declared.Loader.{Loader}
 use Rattle.loader.specs.declared.Answer.the-variants.{Refused, Taken, Dropped, Answered}
 use Rattle.loader.specs.declared.Fed.{Fed}
+use Rattle.loader.specs.declared.RunFed.{RunFed}
 use Rattle.effects.specs.declared.Done.{Done}
+use Rattle.loader.proofs.Theorems.{judged-once}
 use Rattle.loader.specs.declared.Packet.the-variants as code
 use Rattle.loader.specs.declared.Packet as code-packet
 
@@ -85,87 +86,87 @@ module _
         in-words = d .in-words;
       })
 
--- ---- a call
+-- ---- a call with a run
 
--- what no refusal leaves to doubt
-pub record Allowed (r : Loader) (buffers : BufferLengths) : Type 0 where
-  pub for-packet : longest ≤ buffers .packet
-  pub for-answer : longestAnswer ≤ buffers .answer
-  pub held : r .line .held ≤ longest
-  pub session : sessionGood (lengthsOf buffers) (r .session) ≡ true
-
-pub allowed : (r : Loader) (buffers : BufferLengths) → refusal r buffers ≡ 0 → Allowed r buffers
-unfolding refusal bufferChecks recordGood
-allowed r buffers e =
-    let t : Passed (bufferChecks buffers ++ (recordGood (lengthsOf buffers) r orElse 5 ∷ [])) = first-passed _ refl e in
-    let g = both (leb (r .line .held) longest) _ (t .1 .1 .1 .1 .0) in
-    let s = both (sessionGood (lengthsOf buffers) (r .session)) _ (g .1) in
+-- what a call answers and leaves is what it comes to
+feeds-itself : (r : RunFed) (packet answer flash words : List ℕ)
+    → FeedsRun
+    (record {
+      taken = r .taken;
+      step = record { told = told (r .answer); loader = r .loader; packet = packet; answer = answer; flash = flash; words = words };
+    })
+    r packet answer flash words
+feeds-itself r packet answer flash words =
     record {
-      for-packet = leb-true _ _ (t .0);
-      for-answer = leb-true _ _ (t .1 .0);
-      held = leb-true _ _ (g .0);
-      session = s .0;
+      counts = refl;
+      says = refl;
+      hands-back = refl;
+      packet-buffer = refl;
+      answer-buffer = refl;
+      in-flash = refl;
+      in-words = refl;
     }
 
 module _
-    (loader : Loader) (b : ℕ) (packet answer flash words : List ℕ) (n : ℕ)
+    (loader : Loader) (run packet answer flash words : List ℕ) (n : ℕ)
     (judged : n ≡ refusal loader (bufferLengths packet answer flash words)) where
   pub refused :
       (n ≡ 0 → ⊥)
-      → Feeds (step loader b packet answer flash words) (record { answer = Refused n; loader = loader }) packet answer flash words
-  unfolding step refusing
+      → FeedsRun (runStep loader run packet answer flash words) (record { taken = 0; answer = Refused n; loader = loader })
+      packet answer flash words
+  unfolding refusingRun refusing
   refused bad =
-      rw (← judged, ne-eqb n 0 bad)
-      (record
-      { says = refl; hands-back = refl; packet-buffer = refl; answer-buffer = refl; in-flash = refl; in-words = refl })
+      rw (judged-once loader run packet answer flash words, ← judged, ne-eqb n 0 bad) (feeds-itself _ _ _ _ _)
 
-  module _ (good : n ≡ 0) (packet′ : List ℕ) (s : Stepped) (stepped : Steps (stepOf (loader .line) b packet) s packet′) where
+  module _ (good : n ≡ 0) (packet′ : List ℕ) (s : Ran) (ran : Runs (runOf (loader .line) run packet) s packet′) where
     abbrev next : Loader
     next = record { line = s .line; session = loader .session; attach = loader .attach }
 
+    -- what the call comes to, by what the run closes
     going-on :
-        (r : Fed) (a f w : List ℕ) → Feeds (afterByte (closedBy (s .closing) packet′) (s .line) loader packet′ answer flash words) r packet′ a f w
-        → Feeds (step loader b packet answer flash words) r packet′ a f w
-    unfolding step
-    going-on r a f w h = rw (← judged, eq-eqb n 0 good, ← (stepped .closed), ← (stepped .line), ← (stepped .buffer)) h
+        (r : RunFed) (a f w : List ℕ)
+        → FeedsRun (record { taken = s .taken; step = afterByte (closedBy (s .closing) packet′) (s .line) loader packet′ answer flash words })
+        r packet′ a f w
+        → FeedsRun (runStep loader run packet answer flash words) r packet′ a f w
+    unfolding taking
+    going-on r a f w h =
+        rw (judged-once loader run packet answer flash words, ← judged, eq-eqb n 0 good, ← (ran .taken), ← (ran .closed), ← (ran .line), ← (ran .buffer)) h
 
-    pub byte-taken :
+    pub bytes-taken :
         s .closing ≡ Open
-        → Feeds (step loader b packet answer flash words) (record { answer = Taken; loader = next }) packet′ answer flash words
+        → FeedsRun (runStep loader run packet answer flash words) (record { taken = s .taken; answer = Taken; loader = next })
+        packet′ answer flash words
     unfolding afterByte
-    byte-taken e =
-        going-on _ _ _ _
-        (rw e
-        (record
-        { says = refl; hands-back = refl; packet-buffer = refl; answer-buffer = refl; in-flash = refl; in-words = refl }))
+    bytes-taken e =
+        going-on _ _ _ _ (rw e (feeds-itself _ _ _ _ _))
 
     pub packet-broken :
         (m : ℕ) → s .closing ≡ Broken m
-        → Feeds (step loader b packet answer flash words) (record { answer = Dropped m; loader = next }) packet′ answer flash words
+        → FeedsRun (runStep loader run packet answer flash words) (record { taken = s .taken; answer = Dropped m; loader = next })
+        packet′ answer flash words
     unfolding afterByte afterPacket handle header toldOf answerBuffer
     packet-broken m e =
-        going-on _ _ _ _
-        (rw e
-        (record
-        { says = refl; hands-back = refl; packet-buffer = refl; answer-buffer = refl; in-flash = refl; in-words = refl }))
+        going-on _ _ _ _ (rw e (feeds-itself _ _ _ _ _))
 
     -- a whole packet's bytes are in the buffer
     pub whole-fits : (m : ℕ) → s .closing ≡ Whole m → length packet′ ≡ length packet → m ≤ length packet′
     whole-fits m e long =
         let d : Closed = record { stored = m; contents = some (take m packet′) } in
-        let h = step-contents (loader .line) b packet d (take m packet′) (sym (stepped .closed) ∙ ap (λ c. closedBy c packet′) e) refl in
-        omega (arith, h .within)
+        let h = run-within run (loader .line) packet d (take m packet′) (sym (ran .closed) ∙ ap (λ c. closedBy c packet′) e) refl in
+        omega arith
 
     pub packet-acted :
         (m : ℕ) (r : Fed) (a f w : List ℕ) → s .closing ≡ Whole m → length packet′ ≡ length packet
         → Acts (handle (coreOf next flash words) (header (some (take m packet′)))) next (length (take m packet′)) answer r a f w
-        → Feeds (step loader b packet answer flash words) r packet′ a f w
+        → FeedsRun (runStep loader run packet answer flash words) (record { taken = s .taken; answer = r .answer; loader = r .loader })
+        packet′ a f w
     unfolding afterByte afterPacket
     packet-acted m r a f w e long h =
         let q : length (take m packet′) ≡ m = length-take-le m packet′ (whole-fits m e long) in
-        going-on r a f w
+        going-on _ a f w
         (rw e
         (record {
+          counts = refl;
           says = rw q at (h .says);
           hands-back = h .hands-back;
           packet-buffer = refl;
@@ -173,3 +174,44 @@ module _
           in-flash = h .in-flash;
           in-words = h .in-words;
         }))
+
+-- ---- a call with one byte
+
+-- a run of one byte comes to what the byte does
+pub one-byte : (loader : Loader) (b : ℕ) (packet answer flash words : List ℕ)
+    → runStep loader (b ∷ []) packet answer flash words .step ≡ step loader b packet answer flash words
+unfolding step taking refusingRun runOf
+one-byte loader b packet answer flash words = ap (λ x. x .step) (judged-once loader (b ∷ []) packet answer flash words) ∙ by-number (eqb (refusal loader (bufferLengths packet answer flash words)) 0)
+  where
+    s : ByteStep
+    s = stepOf (loader .line) b packet
+
+    by-closed : (o : Option Closed)
+        → afterByte (stopOrGo o (stopped (record { closed = o; line = s .line; buffer = s .buffer })) (ahead 1 (still (s .line) (s .buffer))) .step .closed)
+        (stopOrGo o (stopped s) (ahead 1 (still (s .line) (s .buffer))) .step .line) loader
+        (stopOrGo o (stopped s) (ahead 1 (still (s .line) (s .buffer))) .step .buffer) answer flash words
+        ≡ afterByte o (s .line) loader (s .buffer) answer flash words
+    by-closed none = refl
+    by-closed (some d) = refl
+
+    by-number : (t : Bool)
+        → cond t (taking (runOf (loader .line) (b ∷ []) packet) loader answer flash words)
+        (refusingRun (refusal loader (bufferLengths packet answer flash words)) loader packet answer flash words) .step
+        ≡ cond t (afterByte (s .closed) (s .line) loader (s .buffer) answer flash words)
+        (refusing (refusal loader (bufferLengths packet answer flash words)) loader packet answer flash words)
+    by-number true = by-closed (s .closed)
+    by-number false = refl
+
+pub fed-one : (loader : Loader) (b : ℕ) (packet answer flash words : List ℕ) (r : RunFed) (packet′ answer′ flash′ words′ : List ℕ)
+    → FeedsRun (runStep loader (b ∷ []) packet answer flash words) r packet′ answer′ flash′ words′
+    → Feeds (step loader b packet answer flash words) (record { answer = r .answer; loader = r .loader }) packet′ answer′ flash′ words′
+fed-one loader b packet answer flash words r packet′ answer′ flash′ words′ h =
+    rw (← one-byte loader b packet answer flash words)
+    (record {
+      says = h .says;
+      hands-back = h .hands-back;
+      packet-buffer = h .packet-buffer;
+      answer-buffer = h .answer-buffer;
+      in-flash = h .in-flash;
+      in-words = h .in-words;
+    })

@@ -1,2 +1,4 @@
+pub mod LetPass
 pub mod Theorems
 pub mod Calls
+pub mod Runs

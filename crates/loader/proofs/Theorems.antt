@@ -1,6 +1,6 @@
 -- The statements of specs/Theorems.
-use mathlib.Core.Path.{_≡_, refl, sym, _∙_}
-use mathlib.Core.List.{List}
+use mathlib.Core.Path.{_≡_, refl, sym, ap, _∙_}
+use mathlib.Core.List.{List, []}
 use mathlib.Core.Bool.{Bool, true, false, cond}
 use mathlib.Core.Option.{Option, none, some}
 use Prim.Native.Nat.{ℕ}
@@ -10,6 +10,7 @@ use lib.Dec.{eqb}
 use Rattle.framing.specs.Packets as packets
 use Rattle.framing.specs.Packets.{Packet, header}
 use Rattle.framing.specs.Line.{Closed, stepOf, Step as ByteStep}
+use Rattle.runs.specs.Run.{runOf}
 use Rattle.commands.specs.Header.{command}
 use Rattle.sessions.specs.Errors.{errorOf}
 use Rattle.effects.specs.Core.{lengths}
@@ -17,14 +18,14 @@ use Rattle.effects.specs.Notes.{Order}
 use Rattle.effects.specs.Handle.{Reply, nothing, replied, carriedOut, failed, handle}
 use Rattle.loader.specs.Refusals.{refusal}
 use Rattle.loader.specs.Step.{Step, refused, dropped, answered, step, refusing, coreOf, bufferLengths, answerBuffer, toldOf, afterPacket, afterByte}
-use Rattle.loader.specs.Theorems as theorems
-use Rattle.loader.specs.Theorems.{RefusedChangesNothing, FailedChangesNothing, failing, dropping, Closes, Errs}
+use Rattle.loader.specs.RunStep.{runStep, taking, refusingRun}
+use Rattle.loader.specs.Theorems.{Refused, RefusedChangesNothing, RunRefusedChangesNothing, EmptyRunChangesNothing, failing, dropping, Closes, Errs, Failed, FailedChangesNothing, RunFailedChangesNothing}
 use Rattle.loader.specs.declared.Loader.{Loader}
 
 -- ---- a call that is let pass
 
 module _ (s : ByteStep) (r : Loader) (answer flash words : List ℕ) where
-  -- what it comes to where the byte step closes o
+  -- what it comes to where its line bytes close o
   abbrev after : Option Closed → Step
   after o = afterByte o (s .line) r (s .buffer) answer flash words
 
@@ -73,52 +74,63 @@ module _ (s : ByteStep) (r : Loader) (answer flash words : List ℕ) where
       by-test true q h = let z : e ≡ 0 = cc in absurd (bad z)
       by-test false q h = record { bad = eqb-false _ 0 q; count = cc; same-command = cc; same-error = cc }
 
--- ---- any call
+-- ---- any call: s is what its line bytes come to, x what it comes to
 
-module _ (r : Loader) (b : ℕ) (packet answer flash words : List ℕ) where
+module _ (s : ByteStep) (r : Loader) (packet answer flash words : List ℕ) where
   abbrev number : ℕ
   number = refusal r (bufferLengths packet answer flash words)
 
-  abbrev byte-step : ByteStep
-  byte-step = stepOf (r .line) b packet
+  -- let pass or refused, by its number
+  abbrev judged : Bool → Step
+  judged t = cond t (after s r answer flash words (s .closed)) (refusing number r packet answer flash words)
 
-  -- a call that is let pass, and one that is refused
-  passed : number ≡ 0 → step r b packet answer flash words ≡ after byte-step r answer flash words (byte-step .closed)
-  unfolding step
-  passed e = rw e
+  module _ (x : Step) (is : x ≡ judged (eqb number 0)) where
+    passed : number ≡ 0 → x ≡ after s r answer flash words (s .closed)
+    passed e = is ∙ rw e
 
-  stopped : (number ≡ 0 → ⊥) → step r b packet answer flash words ≡ refusing number r packet answer flash words
-  unfolding step
-  stopped bad = rw (ne-eqb number 0 bad)
+    stopped : (number ≡ 0 → ⊥) → x ≡ refusing number r packet answer flash words
+    stopped bad = is ∙ rw (ne-eqb number 0 bad)
 
-  -- what holds of either holds of the call
-  by-number :
-      (P : Step → Type 0) → (number ≡ 0 → P (after byte-step r answer flash words (byte-step .closed)))
-      → ((number ≡ 0 → ⊥) → P (refusing number r packet answer flash words)) → P (step r b packet answer flash words)
-  by-number P pass stop = go (eqb number 0) refl
-    where
-      go : (t : Bool) → eqb number 0 ≡ t → P (step r b packet answer flash words)
-      go true e = let k : number ≡ 0 = eqb-true number 0 e in rw (passed k) (pass k)
-      go false e = let k : number ≡ 0 → ⊥ = eqb-false number 0 e in rw (stopped k) (stop k)
+    -- what holds of either holds of the call
+    by-number :
+        (P : Step → Type 0) → (number ≡ 0 → P (after s r answer flash words (s .closed)))
+        → ((number ≡ 0 → ⊥) → P (refusing number r packet answer flash words)) → P x
+    by-number P pass stop = go (eqb number 0) refl
+      where
+        go : (t : Bool) → eqb number 0 ≡ t → P x
+        go true e = let k : number ≡ 0 = eqb-true number 0 e in rw (passed k) (pass k)
+        go false e = let k : number ≡ 0 → ⊥ = eqb-false number 0 e in rw (stopped k) (stop k)
+
+    pub refused-so : Refused x r packet answer flash words
+    unfolding refusing
+    refused-so =
+        record {
+          refuses = stopped;
+          only = λ n.
+              by-number
+              (λ y. y .told ≡ refused n → (n ≡ number) × (n ≡ 0 → ⊥) × (y ≡ refusing n r packet answer flash words))
+              (λ _ h. absurd (never-refused s r answer flash words (s .closed) n h))
+              (λ bad h. let q : number ≡ n = cc in (rw q, rw q at bad, rw q));
+        }
 
   -- a call that tells an error closed a packet whose command has it
   only-fails :
       (n c status e sent : ℕ) (order : Order) → number ≡ 0
-      → after byte-step r answer flash words (byte-step .closed) .told ≡ answered n c status e sent order → (e ≡ 0 → ⊥)
-      → Errs r b packet answer flash words n c e
+      → after s r answer flash words (s .closed) .told ≡ answered n c status e sent order → (e ≡ 0 → ⊥)
+      → Errs s r packet answer flash words n c e
   unfolding afterByte
-  only-fails n c status e sent order passes h bad = by-closed (byte-step .closed) refl h
+  only-fails n c status e sent order passes h bad = by-closed (s .closed) refl h
     where
       by-packet :
-          (d : Closed) → byte-step .closed ≡ some d → (x : Packet) → header (d .contents) ≡ x
-          → closing byte-step r answer flash words (d .stored) x .told ≡ answered n c status e sent order
-          → Errs r b packet answer flash words n c e
+          (d : Closed) → s .closed ≡ some d → (p : Packet) → header (d .contents) ≡ p
+          → closing s r answer flash words (d .stored) p .told ≡ answered n c status e sent order
+          → Errs s r packet answer flash words n c e
       by-packet d f packets.dropped g h =
-          let k : dropped (d .stored) ≡ answered n c status e sent order = rw (dropped-drops byte-step r answer flash words (d .stored)) at h in
+          let k : dropped (d .stored) ≡ answered n c status e sent order = rw (dropped-drops s r answer flash words (d .stored)) at h in
           let z : _≡_ {A = ℕ} 0 1 = cc in
           absurd (omega arith)
       by-packet d f (packets.read p) g h =
-          let k = erred byte-step r answer flash words (d .stored) n c status e sent order p h bad in
+          let k = erred s r answer flash words (d .stored) n c status e sent order p h bad in
           record {
             p = p;
             closes = record { unrefused = passes; closing = d; closes = f; counts = sym (k .count); classifies = g };
@@ -127,66 +139,124 @@ module _ (r : Loader) (b : ℕ) (packet answer flash words : List ℕ) where
           }
 
       by-closed :
-          (o : Option Closed) → byte-step .closed ≡ o
-          → after byte-step r answer flash words o .told ≡ answered n c status e sent order
-          → Errs r b packet answer flash words n c e
+          (o : Option Closed) → s .closed ≡ o
+          → after s r answer flash words o .told ≡ answered n c status e sent order
+          → Errs s r packet answer flash words n c e
       by-closed none f h = let z : _≡_ {A = ℕ} 0 1 = cc in absurd (omega arith)
       by-closed (some d) f h = by-packet d f (header (d .contents)) refl h
 
   -- a call that tells a dropped packet closed one
   only-drops :
-      (n : ℕ) → number ≡ 0 → after byte-step r answer flash words (byte-step .closed) .told ≡ dropped n
-      → Closes r b packet answer flash words n packets.dropped
+      (n : ℕ) → number ≡ 0 → after s r answer flash words (s .closed) .told ≡ dropped n
+      → Closes s r packet answer flash words n packets.dropped
   unfolding afterByte afterPacket handle carriedOut failed toldOf
-  only-drops n passes h = by-closed (byte-step .closed) refl h
+  only-drops n passes h = by-closed (s .closed) refl h
     where
       by-packet :
-          (d : Closed) → byte-step .closed ≡ some d → (x : Packet) → header (d .contents) ≡ x
-          → closing byte-step r answer flash words (d .stored) x .told ≡ dropped n
-          → Closes r b packet answer flash words n packets.dropped
+          (d : Closed) → s .closed ≡ some d → (p : Packet) → header (d .contents) ≡ p
+          → closing s r answer flash words (d .stored) p .told ≡ dropped n
+          → Closes s r packet answer flash words n packets.dropped
       by-packet d f packets.dropped g h = record { unrefused = passes; closing = d; closes = f; counts = cc; classifies = g }
-      by-packet d f (packets.read p) g h = by-test (eqb (error byte-step r answer flash words p) 0) h
+      by-packet d f (packets.read p) g h = by-test (eqb (error s r answer flash words p) 0) h
         where
           by-test :
               (t : Bool)
-              → toldOf (d .stored) (cond t (carriedOut (coreOf r flash words) p) (failed (coreOf r flash words) p (error byte-step r answer flash words p)) .reply) ≡ dropped n
-              → Closes r b packet answer flash words n packets.dropped
+              → toldOf (d .stored) (cond t (carriedOut (coreOf r flash words) p) (failed (coreOf r flash words) p (error s r answer flash words p)) .reply) ≡ dropped n
+              → Closes s r packet answer flash words n packets.dropped
           by-test true h = let z : _≡_ {A = ℕ} 0 1 = cc in absurd (omega arith)
           by-test false h = let z : _≡_ {A = ℕ} 0 1 = cc in absurd (omega arith)
 
       by-closed :
-          (o : Option Closed) → byte-step .closed ≡ o
-          → after byte-step r answer flash words o .told ≡ dropped n
-          → Closes r b packet answer flash words n packets.dropped
+          (o : Option Closed) → s .closed ≡ o
+          → after s r answer flash words o .told ≡ dropped n
+          → Closes s r packet answer flash words n packets.dropped
       by-closed none f h = let z : _≡_ {A = ℕ} 0 1 = cc in absurd (omega arith)
       by-closed (some d) f h = by-packet d f (header (d .contents)) refl h
 
+  pub failed-so : (x : Step) → x ≡ judged (eqb number 0) → Failed s x r packet answer flash words
+  unfolding refusing afterByte
+  failed-so x is =
+      record {
+        fails = λ d p e f g bad. passed x is e ∙ rw (f, g) (read-fails s r answer flash words (d .stored) p bad);
+        drops = λ d e f g. passed x is e ∙ rw (f, g) (dropped-drops s r answer flash words (d .stored));
+        only-fails = λ n c status e sent order.
+            by-number x is
+            (λ y. y .told ≡ answered n c status e sent order → (e ≡ 0 → ⊥) → Errs s r packet answer flash words n c e)
+            (only-fails n c status e sent order)
+            (λ _ h. let z : _≡_ {A = ℕ} 0 1 = cc in absurd (omega arith));
+        only-drops = λ n.
+            by-number x is
+            (λ y. y .told ≡ dropped n → Closes s r packet answer flash words n packets.dropped)
+            (only-drops n)
+            (λ _ h. let z : _≡_ {A = ℕ} 0 1 = cc in absurd (omega arith));
+      }
+
+-- ---- a call with one byte
+
+module _ (r : Loader) (b : ℕ) (packet answer flash words : List ℕ) where
+  byte-judged :
+      step r b packet answer flash words
+      ≡ judged (stepOf (r .line) b packet) r packet answer flash words (eqb (number (stepOf (r .line) b packet) r packet answer flash words) 0)
+  unfolding step
+  byte-judged = refl
+
 pub refused-changes-nothing : RefusedChangesNothing
-unfolding refusing
 refused-changes-nothing r b packet answer flash words =
-    record {
-      refuses = stopped r b packet answer flash words;
-      only = λ n.
-          by-number r b packet answer flash words
-          (λ x. x .told ≡ refused n → (n ≡ number r b packet answer flash words) × (n ≡ 0 → ⊥) × (x ≡ refusing n r packet answer flash words))
-          (λ _ h. absurd (never-refused (stepOf (r .line) b packet) r answer flash words (stepOf (r .line) b packet .closed) n h))
-          (λ bad h. let q : number r b packet answer flash words ≡ n = cc in (rw q, rw q at bad, rw q));
-    }
+    refused-so (stepOf (r .line) b packet) r packet answer flash words _ (byte-judged r b packet answer flash words)
 
 pub failed-changes-nothing : FailedChangesNothing
-unfolding refusing afterByte
 failed-changes-nothing r b packet answer flash words =
+    failed-so (stepOf (r .line) b packet) r packet answer flash words _ (byte-judged r b packet answer flash words)
+
+-- ---- a call with a run
+
+module _ (r : Loader) (run packet answer flash words : List ℕ) where
+  abbrev line-step : ByteStep
+  line-step = runOf (r .line) run packet .step
+
+  -- the refusals are judged once, by what the call is given
+  pub judged-once :
+      runStep r run packet answer flash words
+      ≡ cond (eqb (refusal r (bufferLengths packet answer flash words)) 0) (taking (runOf (r .line) run packet) r answer flash words)
+      (refusingRun (refusal r (bufferLengths packet answer flash words)) r packet answer flash words)
+  unfolding runStep
+  judged-once = refl
+
+  run-judged :
+      runStep r run packet answer flash words .step
+      ≡ judged line-step r packet answer flash words (eqb (number line-step r packet answer flash words) 0)
+  unfolding taking refusingRun
+  run-judged = ap (λ x. x .step) judged-once ∙ go (eqb (number line-step r packet answer flash words) 0)
+    where
+      go : (t : Bool)
+          → cond t (taking (runOf (r .line) run packet) r answer flash words)
+          (refusingRun (number line-step r packet answer flash words) r packet answer flash words) .step
+          ≡ judged line-step r packet answer flash words t
+      go true = refl
+      go false = refl
+
+  pub run-passed : number line-step r packet answer flash words ≡ 0
+      → runStep r run packet answer flash words ≡ taking (runOf (r .line) run packet) r answer flash words
+  run-passed e = judged-once ∙ rw e
+
+  pub run-stopped : (number line-step r packet answer flash words ≡ 0 → ⊥)
+      → runStep r run packet answer flash words
+      ≡ refusingRun (number line-step r packet answer flash words) r packet answer flash words
+  run-stopped bad = judged-once ∙ rw (ne-eqb (number line-step r packet answer flash words) 0 bad)
+
+pub run-refused-changes-nothing : RunRefusedChangesNothing
+unfolding refusingRun
+run-refused-changes-nothing r run packet answer flash words =
     record {
-      fails = λ d p e f g bad. passed r b packet answer flash words e ∙ rw (f, g) (read-fails (stepOf (r .line) b packet) r answer flash words (d .stored) p bad);
-      drops = λ d e f g. passed r b packet answer flash words e ∙ rw (f, g) (dropped-drops (stepOf (r .line) b packet) r answer flash words (d .stored));
-      only-fails = λ n c status e sent order.
-          by-number r b packet answer flash words
-          (λ x. x .told ≡ answered n c status e sent order → (e ≡ 0 → ⊥) → Errs r b packet answer flash words n c e)
-          (only-fails r b packet answer flash words n c status e sent order)
-          (λ _ h. let z : _≡_ {A = ℕ} 0 1 = cc in absurd (omega arith));
-      only-drops = λ n.
-          by-number r b packet answer flash words
-          (λ x. x .told ≡ dropped n → Closes r b packet answer flash words n packets.dropped)
-          (only-drops r b packet answer flash words n)
-          (λ _ h. let z : _≡_ {A = ℕ} 0 1 = cc in absurd (omega arith));
+      changes-nothing =
+          refused-so (line-step r run packet answer flash words) r packet answer flash words _ (run-judged r run packet answer flash words);
+      takes-none = λ bad. rw (run-stopped r run packet answer flash words bad);
     }
+
+pub run-failed-changes-nothing : RunFailedChangesNothing
+run-failed-changes-nothing r run packet answer flash words =
+    failed-so (line-step r run packet answer flash words) r packet answer flash words _ (run-judged r run packet answer flash words)
+
+pub empty-run-changes-nothing : EmptyRunChangesNothing
+unfolding taking runOf afterByte
+empty-run-changes-nothing r packet answer flash words e = run-passed r [] packet answer flash words e

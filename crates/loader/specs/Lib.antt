@@ -1,4 +1,5 @@
 pub mod Refusals
 pub mod Step
+pub mod RunStep
 pub mod Parts
 pub mod Theorems

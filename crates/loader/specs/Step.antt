@@ -23,7 +23,7 @@ use Rattle.loader.specs.declared.Answer.{Answer}
 use Rattle.loader.specs.declared.Answer.the-variants as code
 use Rattle.loader.specs.declared.Fed.{Fed}
 
--- what a call tells: a refusal by its number; a byte taken; a closed packet with the number of stored bytes, dropped, or read with its command, status and error, how many bytes of answer were written, and what the caller is to do
+-- what a call tells: a refusal by its number; its bytes taken, and nothing closed; a closed packet with the number of stored bytes, dropped, or read with its command, status and error, how many bytes of answer were written, and what the caller is to do
 pub data Told : Type 0 where
   refused : ℕ → Told
   taken : Told
@@ -89,7 +89,7 @@ afterPacket l stored h packet buffer =
 abbrev pub coreOf : Loader → List ℕ → List ℕ → Core
 coreOf r flash words = record { session = r .session; attach = r .attach; flash = flash; words = words }
 
--- after the byte step: nothing closed, or a packet
+-- after the byte step, or a run of them: nothing closed, or a packet
 unfoldable pub afterByte : Option ClosedPacket → Line → Loader → List ℕ → List ℕ → List ℕ → List ℕ → Step
 afterByte none l r packet answer flash words = keeping taken l r packet answer flash words
 afterByte (some d) l r packet answer flash words =

@@ -1,4 +1,4 @@
-// The chip's end of the ESP serial protocol: the call that is made for each received byte.
+// The chip's end of the ESP serial protocol: the call that is made with each run of received bytes.
 mod header;
 mod refusals;
 
@@ -20,6 +20,7 @@ ghost use Rattle.sessions.specs.Session.{sessionGood};
 ghost use Rattle.effects.specs.Handle.{handle};
 ghost use Rattle.answers.specs.Reply.{longestAnswer};
 ghost use Rattle.loader.specs.Step.{step, Feeds, freshLoader, coreOf};
+ghost use Rattle.loader.specs.RunStep.{runStep, FeedsRun};
 ghost use Rattle.loader.specs.Parts.{Acts};
 
 // The loader's record. The caller keeps what each call hands back, and hands it to the next call.
@@ -31,10 +32,10 @@ pub struct Loader {
 
 // What a call answers.
 pub enum Answer {
-    // refused with this number: the byte is not taken and nothing has changed. Put right what was lent or handed over (1 packet buffer,
-    // 2 answer buffer, 3 flash, 4 words, 5 record), and feed the byte again
+    // refused with this number: no byte is taken and nothing has changed. Put right what was lent or handed over (1 packet buffer,
+    // 2 answer buffer, 3 flash, 4 words, 5 record), and feed the same bytes again
     Refused(u8),
-    // the byte is taken, and closes nothing: nothing to send
+    // all bytes are taken, and close nothing: nothing to send
     Taken,
     // a packet is closed and dropped, of which `stored` bytes went into the packet buffer: nothing to send
     Dropped {
@@ -50,7 +51,15 @@ pub enum Answer {
     },
 }
 
-// The answer, and the record for the next call, whatever the answer.
+// The answer to a run, how many of its bytes were taken, and the record for the next call, whatever the answer. Where a packet was
+// closed, the bytes behind `taken` are for the next call.
+pub struct RunFed {
+    pub taken: usize,
+    pub answer: Answer,
+    pub loader: Loader,
+}
+
+// The answer to one byte, and the record for the next call, whatever the answer.
 pub struct Fed {
     pub answer: Answer,
     pub loader: Loader,
@@ -113,11 +122,68 @@ fn act(loader: Loader, packet: &[u8], answer: &mut [u8], flash: &mut [u8], words
     }
 }
 
-// One received byte. The caller lends
-// - a packet buffer of at least 4,120 bytes, the same for each byte, and does not write to it;
+// A run of received bytes, as many as a read brought. It is taken up to and with the byte that closes a packet, or whole where none does.
+// The caller lends
+// - a packet buffer of at least 4,120 bytes, the same for each call, and does not write to it;
 // - an answer buffer of at least 22 bytes, which it may use as it likes between calls;
-// - flash, of a length that is a multiple of 4,096 up to 4,194,304, and 1 to 16,384 words of memory, the same for each byte;
-// keeps the record that comes back, and does what stands at the answer's case.
+// - flash, of a length that is a multiple of 4,096 up to 4,194,304, and 1 to 16,384 words of memory, the same for each call;
+// keeps the record that comes back, does what stands at the answer's case, and hands the rest of the run over with the next call.
+pub fn feed_run(
+    loader: Loader,
+    run: &[u8],
+    packet: &mut [u8],
+    answer: &mut [u8],
+    flash: &mut [u8],
+    words: &mut [u32],
+) -> RunFed
+    ensures { λ r. ⌜ FeedsRun
+        (runStep loader (now (run .entry)) (now (packet .entry)) (now (answer .entry)) (now (flash .entry)) (now (words .entry)))
+        r (now (packet .exit)) (now (answer .exit)) (now (flash .exit)) (now (words .exit)) ⌝ }
+{
+    let number = refusal_of(loader, packet.len(), answer.len(), flash.len(), words.len());
+    if number != 0 {
+        return RunFed {
+            taken: 0,
+            answer: Answer::Refused(number),
+            loader,
+        };
+    }
+    let line = loader.line;
+    let session = loader.session;
+    let ran = runs::run(line, run, packet);
+    let taken = ran.taken;
+    let after = ran.line;
+    let closing = ran.closing;
+    let next = Loader {
+        line: after,
+        session,
+        attach: loader.attach,
+    };
+    match closing {
+        Closing::Open => RunFed {
+            taken,
+            answer: Answer::Taken,
+            loader: next,
+        },
+        Closing::Whole(stored) => {
+            let acted = act(next, &packet[..stored], answer, flash, words);
+            let said = acted.answer;
+            let left = acted.loader;
+            RunFed {
+                taken,
+                answer: said,
+                loader: left,
+            }
+        }
+        Closing::Broken(stored) => RunFed {
+            taken,
+            answer: Answer::Dropped { stored },
+            loader: next,
+        },
+    }
+}
+
+// One received byte: a run of one. What is lent and what to do stand at `feed_run`.
 pub fn feed(
     loader: Loader,
     byte: u8,
@@ -130,32 +196,12 @@ pub fn feed(
         (step loader byte (now (packet .entry)) (now (answer .entry)) (now (flash .entry)) (now (words .entry)))
         r (now (packet .exit)) (now (answer .exit)) (now (flash .exit)) (now (words .exit)) ⌝ }
 {
-    let number = refusal_of(loader, packet.len(), answer.len(), flash.len(), words.len());
-    if number != 0 {
-        return Fed {
-            answer: Answer::Refused(number),
-            loader,
-        };
-    }
-    let line = loader.line;
-    let session = loader.session;
-    let stepped = framing::step(line, byte, packet);
-    let after = stepped.line;
-    let closing = stepped.closing;
-    let next = Loader {
-        line: after,
-        session,
-        attach: loader.attach,
-    };
-    match closing {
-        Closing::Open => Fed {
-            answer: Answer::Taken,
-            loader: next,
-        },
-        Closing::Whole(stored) => act(next, &packet[..stored], answer, flash, words),
-        Closing::Broken(stored) => Fed {
-            answer: Answer::Dropped { stored },
-            loader: next,
-        },
+    let run = [byte];
+    let fed = feed_run(loader, &run, packet, answer, flash, words);
+    let said = fed.answer;
+    let next = fed.loader;
+    Fed {
+        answer: said,
+        loader: next,
     }
 }

@@ -1,13 +1,20 @@
 // Every theorem, a function each: the contract is the theorem, and a theorem without a proof is an unproved function.
-ghost use Rattle.loader.specs.Theorems.{RefusedChangesNothing, FailedChangesNothing};
+ghost use Rattle.loader.specs.Theorems.{RefusedChangesNothing, RunRefusedChangesNothing, EmptyRunChangesNothing};
+ghost use Rattle.loader.specs.Theorems.{FailedChangesNothing, RunFailedChangesNothing};
 ghost use Rattle.framing.specs.Theorems.{RoundTrip, FrameComesBack, CutOfFrame, StepsAreCut};
+ghost use Rattle.runs.specs.Theorems.{TakesMost, TakesSome, GoesOn, StaysClosed, RunComesBack};
 ghost use Rattle.fields.specs.Theorems.{WordBack, PackedSays};
 ghost use Rattle.begins.specs.Count.{CountIsDividedUp};
 ghost use Rattle.history.specs.Theorems.{PacketsKeep, PacketsLoad};
 ghost use Rattle.history.specs.Witness.{WorkedFits};
 ghost use Rattle.claims.specs.CallHistory.{CallsAreHistory};
+ghost use Rattle.claims.specs.RunHistory.{RunsAreHistory};
 ghost use Rattle.claims.specs.Demand3.{Demand3};
+ghost use Rattle.claims.specs.Demand3Runs.{Demand3Runs};
+ghost use Rattle.claims.specs.RunsAreBytes.{RunsAreBytes};
+ghost use Rattle.claims.specs.HoweverCut.{HoweverCut};
 ghost use Rattle.claims.specs.Arrives.{PacketArrives, FrameArrives};
+ghost use Rattle.claims.specs.RunArrives.{RunArrives};
 ghost use Rattle.claims.specs.WorkedLoad.{WorkedLoad};
 ghost use Rattle.link_claims.specs.Sound.{NeverRefused, SoundStays};
 ghost use Rattle.link_claims.specs.Refusals.{LinkRefusedChangesNothing, SoundAfterChecks};
@@ -28,10 +35,25 @@ pub fn refused_changes_nothing()
     ensures { λ r. ⌜ RefusedChangesNothing ⌝ }
 {}
 
+// The same of a call with a run, which then takes no byte.
+pub fn run_refused_changes_nothing()
+    ensures { λ r. ⌜ RunRefusedChangesNothing ⌝ }
+{}
+
+// An empty run that is let pass takes none, closes nothing and changes nothing.
+pub fn empty_run_changes_nothing()
+    ensures { λ r. ⌜ EmptyRunChangesNothing ⌝ }
+{}
+
 // A call that closes a packet whose command fails answers it with its error, and one that drops a packet tells it; no other call tells
 // either, and session, attach word, flash and words stay.
 pub fn failed_changes_nothing()
     ensures { λ r. ⌜ FailedChangesNothing ⌝ }
+{}
+
+// The same of a call with a run.
+pub fn run_failed_changes_nothing()
+    ensures { λ r. ⌜ RunFailedChangesNothing ⌝ }
 {}
 
 // ---- Demand 2: reading and writing.
@@ -51,6 +73,11 @@ pub fn cut_of_frame()
     ensures { λ r. ⌜ CutOfFrame ⌝ }
 {}
 
+// A framed packet at the front of a run comes back the same: the run is taken up to the frame's end.
+pub fn run_comes_back()
+    ensures { λ r. ⌜ RunComesBack ⌝ }
+{}
+
 // For every list of bytes the byte step closes the packets of the cut, each with its contents or dropped, and its count.
 pub fn steps_are_cut()
     ensures { λ r. ⌜ StepsAreCut ⌝ }
@@ -65,6 +92,11 @@ pub fn packet_arrives()
 // The same of the bytes that `frame` wrote into its buffer.
 pub fn frame_arrives()
     ensures { λ r. ⌜ FrameArrives ⌝ }
+{}
+
+// A run that begins with a framed packet, handed to the loader at once, is taken up to the frame's end and is that packet handled.
+pub fn run_arrives()
+    ensures { λ r. ⌜ RunArrives ⌝ }
 {}
 
 // A word's four bytes, least first, are read back as the word.
@@ -82,6 +114,39 @@ pub fn count_is_divided_up()
     ensures { λ r. ⌜ CountIsDividedUp ⌝ }
 {}
 
+// ---- Runs: a whole read is fed as its bytes are.
+
+// A run takes no more than there is.
+pub fn takes_most()
+    ensures { λ r. ⌜ TakesMost ⌝ }
+{}
+
+// Of a run that is not empty at least one byte is taken.
+pub fn takes_some()
+    ensures { λ r. ⌜ TakesSome ⌝ }
+{}
+
+// A run that closes nothing is taken whole, and what follows goes on from where it left.
+pub fn goes_on()
+    ensures { λ r. ⌜ GoesOn ⌝ }
+{}
+
+// A run that closes a packet is not changed by what follows it.
+pub fn stays_closed()
+    ensures { λ r. ⌜ StaysClosed ⌝ }
+{}
+
+// From every record and all buffers, a list of run calls is the byte calls that feed what was taken: what they leave, and each call that
+// closes a packet.
+pub fn runs_are_bytes()
+    ensures { λ r. ⌜ RunsAreBytes ⌝ }
+{}
+
+// However a stream is cut into runs, each handed over again until it is taken, it is fed as byte by byte; two ways of cutting agree.
+pub fn however_cut()
+    ensures { λ r. ⌜ HoweverCut ⌝ }
+{}
+
 // ---- Demand 3: FLASH_END succeeds exactly where the packets so far fit the grammar, and flash is then as announced.
 
 // From a session that refusal 5 lets pass, no packet changes the length of flash or words, leaves a session that refusal 5 would
@@ -95,12 +160,22 @@ pub fn packets_load()
     ensures { λ r. ⌜ PacketsLoad ⌝ }
 {}
 
-// The half over calls: the calls that close a packet are the line's packets, handled one after the other.
+// The half over calls: the run calls that close a packet are the packets of the line that was taken, handled one after the other.
+pub fn runs_are_history()
+    ensures { λ r. ⌜ RunsAreHistory ⌝ }
+{}
+
+// The same of byte calls.
 pub fn calls_are_history()
     ensures { λ r. ⌜ CallsAreHistory ⌝ }
 {}
 
-// The whole, over every packet buffer, flash, memory and list of calls.
+// The whole, over every packet buffer, flash, memory and list of run calls.
+pub fn demand_3_runs()
+    ensures { λ r. ⌜ Demand3Runs ⌝ }
+{}
+
+// The letter's own form, over every list of byte calls.
 pub fn demand_3()
     ensures { λ r. ⌜ Demand3 ⌝ }
 {}
@@ -179,7 +254,8 @@ pub fn starred()
     ensures { λ r. ⌜ Starred ⌝ }
 {}
 
-// The listing of the example's bytes is its heading and its two lines; a dropped packet behind them has `--` in its fields.
+// The listing of the example's bytes, in whatever blocks they are handed over, is its heading and its two lines; a dropped packet behind
+// them has `--` in its fields. On one text buffer it makes no difference, for any input, where the blocks end.
 pub fn example()
     ensures { λ r. ⌜ Example ⌝ }
 {}

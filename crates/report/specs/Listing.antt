@@ -1,11 +1,12 @@
--- The listing a byte at a time: "reads line bytes .. into a fresh loader", and "a line for each closed packet", numbered from 1.
+-- The listing a run of bytes at a time (request One): "reads line bytes .. into a fresh loader", and "a line for each closed packet", numbered from 1.
 use Prim.Native.Nat.{ℕ, _+_, _^_, _%_}
 use mathlib.Core.Path.{_≡_}
 use mathlib.Core.List.{List}
 use mathlib.Core.Bool.{cond}
 use lib.ListN.{length}
 use Rattle.lists.specs.Lay.{lay}
-use Rattle.loader.specs.Step.{Told, refused, taken, dropped, answered, Step, freshLoader, step}
+use Rattle.loader.specs.Step.{Told, refused, taken, dropped, answered, freshLoader}
+use Rattle.loader.specs.RunStep.{RunStep, runStep}
 use Rattle.report.specs.Lines.{lineOf, hasSpace}
 use Rattle.report.specs.declared.Listing.{Listing}
 use Rattle.report.specs.declared.Listed.{Listed}
@@ -22,24 +23,24 @@ numberAfter taken number = number
 numberAfter (dropped stored) number = (number + 1) % 2 ^ 64
 numberAfter (answered stored command status error sent order) number = (number + 1) % 2 ^ 64
 
--- what a call of the listing says: that its byte was not fed, for want of space; that the loader refused the call, with its number; or the next
--- state and how many bytes of the text's buffer are used
+-- what a call of the listing says: that its run was not fed, for want of space; that the loader refused the call, with its number; or the next
+-- state, how many bytes of the text's buffer are used, and how many of the run's bytes were taken
 pub data ListReport : Type 0 where
   not-fed : ListReport
   call-refused : ℕ → ListReport
-  listed : Listing → ℕ → ListReport
+  listed : (next : Listing) (used count : ℕ) → ListReport
 
 abbrev pub listReport : Listed → ListReport
 listReport Full = not-fed
 listReport (Refused n) = call-refused n
-listReport (Fed next used) = listed next used
+listReport (Fed next used count) = listed next used count
 
 -- by what the loader tells
-unfoldable pub reportOf : Told → Listing → ℕ → ListReport
-reportOf (refused n) next used = call-refused n
-reportOf taken next used = listed next used
-reportOf (dropped stored) next used = listed next used
-reportOf (answered stored command status error sent order) next used = listed next used
+unfoldable pub reportOf : Told → Listing → (used count : ℕ) → ListReport
+reportOf (refused n) next used count = call-refused n
+reportOf taken next used count = listed next used count
+reportOf (dropped stored) next used count = listed next used count
+reportOf (answered stored command status error sent order) next used count = listed next used count
 
 -- what a call of the listing comes to: what it says, and each lent buffer afterwards
 pub record ListStep : Type 0 where
@@ -50,28 +51,32 @@ pub record ListStep : Type 0 where
   pub words : List ℕ
   pub text : List ℕ
 
--- the byte is not fed
+-- nothing of the run is fed
 unfoldable pub full : List ℕ → List ℕ → List ℕ → List ℕ → List ℕ → ListStep
 full packet answer flash words text =
     record { said = not-fed; packet = packet; answer = answer; flash = flash; words = words; text = text }
 
--- the byte is fed by a call of the loader that comes to s; the line of what s tells stands behind the used bytes of the text's buffer
-unfoldable pub listedBy : Step → ℕ → List ℕ → ℕ → ListStep
-listedBy s number text used =
+-- the run is fed by a call of the loader that comes to x; the line of what x tells stands behind the used bytes of the text's buffer
+unfoldable pub listedBy : RunStep → ℕ → List ℕ → ℕ → ListStep
+listedBy x number text used =
     record {
-      said = reportOf (s .told) (record { loader = s .loader; number = numberAfter (s .told) number }) (used + length (lineOf number (s .told)));
-      packet = s .packet;
-      answer = s .answer;
-      flash = s .flash;
-      words = s .words;
-      text = lay text used (lineOf number (s .told));
+      said =
+          reportOf (x .step .told)
+          (record { loader = x .step .loader; number = numberAfter (x .step .told) number })
+          (used + length (lineOf number (x .step .told)))
+          (x .taken);
+      packet = x .step .packet;
+      answer = x .step .answer;
+      flash = x .step .flash;
+      words = x .step .words;
+      text = lay text used (lineOf number (x .step .told));
     }
 
--- a byte is fed where every line fits, so no line is lost
-unfoldable pub listStep : Listing → ℕ → List ℕ → List ℕ → List ℕ → List ℕ → List ℕ → ℕ → ListStep
-listStep l b packet answer flash words text used =
+-- a run is fed where every line fits, and closes at most one packet, so no line is lost
+unfoldable pub listStep : Listing → (run packet answer flash words text : List ℕ) → ℕ → ListStep
+listStep l run packet answer flash words text used =
     cond (hasSpace (length text) used)
-    (listedBy (step (l .loader) b packet answer flash words) (l .number) text used)
+    (listedBy (runStep (l .loader) run packet answer flash words) (l .number) text used)
     (full packet answer flash words text)
 
 -- the call's answer and each lent buffer at exit are those of s

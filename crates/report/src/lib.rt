@@ -1,4 +1,4 @@
-// The lines of the listing, and the call that lists a received byte.
+// The lines of the listing, and the call that lists a run of received bytes.
 use loader::Answer;
 use loader::Loader;
 use loader::status_of;
@@ -44,14 +44,19 @@ pub enum Written {
     Used(usize),
 }
 
-// What `feed` says.
+// What `feed_run` says.
 pub enum Listed {
-    // fewer than 30 bytes are left in the text's buffer: the byte is not fed, and nothing changes
+    // fewer than 30 bytes are left in the text's buffer: nothing is fed, and nothing changes
     Full,
-    // the loader refused the call, with its number from 1 to 5: the byte is not taken, and nothing changes
+    // the loader refused the call, with its number from 1 to 5: no byte is taken, and nothing changes
     Refused(u8),
-    // the byte is taken: the next state, and how many bytes of the text's buffer are used
-    Fed { listing: Listing, used: usize },
+    // the run is fed: the next state, how many bytes of the text's buffer are used, and how many bytes of the run were taken, from the
+    // front. The rest is to be handed over again
+    Fed {
+        listing: Listing,
+        used: usize,
+        taken: usize,
+    },
 }
 
 // ---- numbers
@@ -207,29 +212,43 @@ fn next_number(answer: Answer, number: u64) -> u64
     }
 }
 
-// What a call says by the loader's answer, with the next state and how many bytes of the text are used.
-fn listed_as(answer: Answer, listing: Listing, used: usize) -> Listed
-    ensures { λ r. ⌜ listReport r ≡ reportOf (told answer) listing used ⌝ }
+// What a call says by the loader's answer, with the next state, how many bytes of the text are used and how many of the run are taken.
+fn listed_as(answer: Answer, listing: Listing, used: usize, taken: usize) -> Listed
+    ensures { λ r. ⌜ listReport r ≡ reportOf (told answer) listing used taken ⌝ }
 {
     match answer {
         Answer::Refused(number) => Listed::Refused(number),
-        Answer::Taken => Listed::Fed { listing, used },
-        Answer::Dropped { stored: _ } => Listed::Fed { listing, used },
+        Answer::Taken => Listed::Fed {
+            listing,
+            used,
+            taken,
+        },
+        Answer::Dropped { stored: _ } => Listed::Fed {
+            listing,
+            used,
+            taken,
+        },
         Answer::Answered {
             stored: _,
             command: _,
             error: _,
             sent: _,
             note: _,
-        } => Listed::Fed { listing, used },
+        } => Listed::Fed {
+            listing,
+            used,
+            taken,
+        },
     }
 }
 
-// One received byte, fed to the loader; where it closes a packet, the packet's line is written behind the used bytes of `text`.
-// The space for a line is judged first, so that no line is lost: on `Full` the caller empties `text` and feeds the byte again.
-pub fn feed(
+// A run of received bytes, fed to the loader; where it closes a packet, the packet's line is written behind the used bytes of `text`.
+// "The call stops after the byte that closes a packet and says how many bytes it took; an empty run takes none."
+// The space for a line is judged first, so that no line is lost; a run closes at most one packet, so that the space for one is enough. On
+// `Full` the caller empties `text` and hands the run over again.
+pub fn feed_run(
     listing: Listing,
-    byte: u8,
+    run: &[u8],
     packet: &mut [u8],
     answer: &mut [u8],
     flash: &mut [u8],
@@ -238,12 +257,14 @@ pub fn feed(
     used: usize,
 ) -> Listed
     ensures { λ r. ⌜ Lists
-        (listStep listing byte (now (packet .entry)) (now (answer .entry)) (now (flash .entry)) (now (words .entry)) (now (text .entry)) used)
+        (listStep listing (now (run .entry)) (now (packet .entry)) (now (answer .entry)) (now (flash .entry)) (now (words .entry))
+        (now (text .entry)) used)
         r (now (packet .exit)) (now (answer .exit)) (now (flash .exit)) (now (words .exit)) (now (text .exit)) ⌝ }
 {
     if has_space(text.len(), used) {
         let number = listing.number;
-        let fed = loader::feed(listing.loader, byte, packet, answer, flash, words);
+        let fed = loader::feed_run(listing.loader, run, packet, answer, flash, words);
+        let taken = fed.taken;
         let said = fed.answer;
         let next = fed.loader;
         let longer = put_line(number, said, text, used);
@@ -251,7 +272,7 @@ pub fn feed(
             loader: next,
             number: next_number(said, number),
         };
-        return listed_as(said, after, longer);
+        return listed_as(said, after, longer, taken);
     }
     Listed::Full
 }

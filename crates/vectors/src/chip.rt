@@ -1,5 +1,6 @@
 // The operations on line bytes: frames, a loader that is fed, and the flash that it leaves. What they give stands at the front of a
 // buffer, and they say how many bytes it is.
+use crate::calls::feed_from;
 use crate::names;
 use fields::word_at;
 use framing::Closing;
@@ -12,7 +13,9 @@ use tables::put_byte;
 // The most bytes of a field: the longest packet, framed, and more.
 pub const LONGEST_FIELD: usize = 2 * LONGEST + 2;
 
-const FLASH_LENGTH: usize = 65536;
+pub const FLASH_LENGTH: usize = 65536;
+
+pub const WORDS: usize = 4096;
 
 // The buffer of what operations give: bytes at its front, and behind a field's the flash that the last loader left.
 pub const GOT: usize = LONGEST_FIELD + FLASH_LENGTH;
@@ -65,11 +68,17 @@ fn joined(said: Said, answer: Answer) -> Said {
     }
 }
 
-// Feeds a fresh loader, over flash and words of zeros, and keeps its flash.
+// Keeps a loader's flash behind the front of the buffer.
+fn keep(flash: &[u8; FLASH_LENGTH], got: &mut [u8]) {
+    lists::copy_at(got, LONGEST_FIELD, flash);
+}
+
+// Feeds a fresh loader, over flash and words of zeros, and keeps its flash. All bytes are handed over, and what a call leaves of them
+// again until nothing is left.
 fn run(bytes: &[u8], got: &mut [u8]) -> Said {
     let mut packet = [0u8; LONGEST];
     let mut flash = [0u8; FLASH_LENGTH];
-    let mut words = [0u32; 4096];
+    let mut words = [0u32; WORDS];
     let mut state = loader::new();
     let mut said = Said {
         closed: 0,
@@ -77,15 +86,15 @@ fn run(bytes: &[u8], got: &mut [u8]) -> Said {
         silent: SILENT,
         sent: 0,
     };
-    let mut i: usize = 0;
-    while i < bytes.len() {
-        let fed = loader::feed(state, bytes[i], &mut packet, got, &mut flash, &mut words);
+    let mut at: usize = 0;
+    while at < bytes.len() {
+        let fed = feed_from(state, bytes, at, &mut packet, got, &mut flash, &mut words);
         let answer = fed.answer;
         state = fed.loader;
         said = joined(said, answer);
-        i += 1;
+        at = fed.next;
     }
-    lists::copy_at(got, LONGEST_FIELD, &flash);
+    keep(&flash, got);
     said
 }
 

@@ -1,6 +1,8 @@
 // Runs the vectors of a table, which is read from standard input, and prints a line for each: where it is from, what it is,
 // what was expected, in hex, and `ok`, or `WRONG` and what came. The table's head says how its lines are written.
+mod calls;
 mod chip;
+mod cuts;
 mod names;
 mod plain;
 
@@ -16,6 +18,7 @@ fn outcome(operation: u8, input: &[u8], got: &mut [u8]) -> usize {
         names::UNFRAME => chip::unframe(input, got),
         names::ANSWER | names::CLOSES | names::ERRORS => chip::on_loader(operation, input, got),
         names::FLASH => chip::flash_at(input, got),
+        names::CUTS => tables::put_word(cuts::agreeing(input), got),
         names::ERASED => tables::put_byte(chip::erased(input, got), got),
         _ => plain::on_bytes(operation, input, got),
     }

@@ -4,10 +4,10 @@ use tables::part;
 use tables::past;
 
 // Each name has the number of its place here.
-const NAMES: [u8; 95] = *b"\
+const NAMES: [u8; 100] = *b"\
     checksum\tcommand\tsize\tvalue\taddress\tmerge\tpack\t\
     frame\tunframe\tanswer\tcloses\terrors\t\
-    flash\terased\t";
+    flash\terased\tcuts\t";
 
 pub const CHECKSUM: u8 = 0;
 
@@ -37,6 +37,8 @@ pub const FLASH: u8 = 12;
 
 pub const ERASED: u8 = 13;
 
+pub const CUTS: u8 = 14;
+
 // No operation has it.
 pub const UNKNOWN: u8 = 255;
 
@@ -45,7 +47,7 @@ pub fn number_of(name: &[u8]) -> u8 {
     let names = NAMES;
     let mut number: u8 = 0;
     let mut at: usize = 0;
-    while at < 95 {
+    while at < 100 {
         let next = past(&names, at, TAB);
         if lists::same(name, part(&names, at, next)) {
             return number;

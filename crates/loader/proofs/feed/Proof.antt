@@ -1,55 +1,16 @@
-use mathlib.Core.Path.{sym, _∙_}
-use lib.Seq.{length-take-le}
-use Rattle.loader.proofs.Calls.{allowed, refused, byte-taken, packet-broken, whole-fits, packet-acted}
+use Rattle.loader.proofs.Calls.{fed-one}
 use borrow.Author.Needs.{needs}
 use Rattle.loader.proofs.feed.Statement.{statement}
 use Rattle.loader.proofs.feed.Tie as tie
 
-refusal-of-requires : tie.Need-refusal-of-requires
-refusal-of-requires c κs = search needs
+slice-aggregate-feed-run : tie.Need-slice-aggregate-feed-run
+slice-aggregate-feed-run c = search needs
 
-returns : tie.Need-returns
-returns c = refused _ _ _ _ _ _ _ (c .before .refusal-of .ensures) (c .if1 .taken)
-
-step-requires : tie.Need-step-requires
-step-requires c κs = search needs
-
-enum-told : tie.Need-enum-told
-enum-told c = search needs
-
-enum-known-closing : tie.Need-enum-known-closing
-enum-known-closing c = search needs
-
-slice-reshare-prefix-act : tie.Need-slice-reshare-prefix-act
-slice-reshare-prefix-act c =
-    let s = c .before .before .before .before .before .before in
-    let i = s .before .before .before in
-    let j = i .before in
-    let a = j .before .before .before .before .before .args in
-    whole-fits _ _ (a .packet .now) (a .answer .now) (a .flash .now) (a .words .now) _ (j .refusal-of .ensures) (i .if1 .left) _ _ (s .step .ensures) _ (c .before .closing .given .1) (s .step .kept .1 .1 .0)
-
-slice-aggregate-act : tie.Need-slice-aggregate-act
-slice-aggregate-act c =
-    let s = c .before .before .before .before .before .before .before in
-    let i = s .before .before .before in
-    let j = i .before in
-    let a = j .before .before .before .before .before .args in
-    sym (length-take-le _ _ (whole-fits _ _ (a .packet .now) (a .answer .now) (a .flash .now) (a .words .now) _ (j .refusal-of .ensures) (i .if1 .left) _ _ (s .step .ensures) _ (c .before .before .closing .given .1) (s .step .kept .1 .1 .0)))
-
-act-requires : tie.Need-act-requires
-act-requires c κs =
-    let i = c .before .before .before .before .before .before .before .before .before .before .before .before .before in
-    let a = allowed _ _ (sym (i .before .refusal-of .ensures) ∙ i .if1 .left) in
-    (a .for-answer, a .session)
-
-enum-known-closing-2 : tie.Need-enum-known-closing-2
-enum-known-closing-2 c = search needs
+feed-run-requires : tie.Need-feed-run-requires
+feed-run-requires c κs = search needs
 
 same-length : tie.Need-same-length
 same-length c = search needs
-
-returns-2 : tie.Need-returns-2
-returns-2 c = let i = c .before .before .before .before .before .before .before .before in byte-taken _ _ _ _ _ _ _ (i .before .refusal-of .ensures) (i .if1 .left) _ _ (c .before .before .before .before .before .step .ensures) (c .enum-told .given .1)
 
 same-length-2 : tie.Need-same-length-2
 same-length-2 c = search needs
@@ -60,42 +21,17 @@ same-length-3 c = search needs
 same-length-4 : tie.Need-same-length-4
 same-length-4 c = search needs
 
-same-length-5 : tie.Need-same-length-5
-same-length-5 c = search needs
-
-returns-3 : tie.Need-returns-3
-returns-3 c =
-    let s = c .before .before .before .before .before .before .before .before .before .before .before .before .before .before .before .before .before in
-    let i = s .before .before .before in
-    let j = i .before in
-    let a = j .before .before .before .before .before .args in
-    packet-acted _ _ (a .packet .now) (a .answer .now) (a .flash .now) (a .words .now) _ (j .refusal-of .ensures) (i .if1 .left) _ _ (s .step .ensures) _ _ _ _ _ (c .before .before .before .before .before .before .before .before .before .before .before .before .closing .given .1) (s .step .kept .1 .1 .0) (c .before .before .before .before .before .before .act .ensures)
-
-same-length-6 : tie.Need-same-length-6
-same-length-6 c = search needs
-
-returns-4 : tie.Need-returns-4
-returns-4 c = let i = c .before .before .before .before .before .before .before .before .before in packet-broken _ _ _ _ _ _ _ (i .before .refusal-of .ensures) (i .if1 .left) _ _ (c .before .before .before .before .before .before .step .ensures) _ (c .before .closing2 .given .1)
+returns : tie.Need-returns
+returns c = fed-one _ _ _ _ _ _ _ _ _ _ _ (c .before .before .before .before .before .before .before .before .before .feed-run .ensures)
 
 pub feed-spec : {M : Type 1} → statement M
 feed-spec =
     tie.close
     (tie.spec
-    refusal-of-requires
-    returns
-    step-requires
-    enum-told
-    enum-known-closing
-    slice-reshare-prefix-act
-    slice-aggregate-act
-    act-requires
-    enum-known-closing-2
+    slice-aggregate-feed-run
+    feed-run-requires
     same-length
-    returns-2
     same-length-2
     same-length-3
     same-length-4
-    same-length-5
-    returns-3
-    same-length-6
-    returns-4)
+    returns)

@@ -1,16 +1,17 @@
 -- Where a line fits, the loader's contract and the line of what it tells.
 use mathlib.Core.Path.{sym, _∙_}
 use borrow.Author.Tests.{leb-true}
-use Rattle.report.specs.Listing.{listStep, listedBy, full}
+use Rattle.report.specs.Listing.{listStep, full}
+use Rattle.report.proofs.Rows.{lists-fed}
 use borrow.Author.Needs.{needs}
-use Rattle.report.proofs.feed.Statement.{statement}
-use Rattle.report.proofs.feed.Tie as tie
+use Rattle.report.proofs.feed_run.Statement.{statement}
+use Rattle.report.proofs.feed_run.Tie as tie
 
 has-space-requires : tie.Need-has-space-requires
 has-space-requires c κs = search needs
 
-feed-requires : tie.Need-feed-requires
-feed-requires c κs = search needs
+feed-run-requires : tie.Need-feed-run-requires
+feed-run-requires c κs = search needs
 
 put-line-requires : tie.Need-put-line-requires
 put-line-requires c κs =
@@ -39,17 +40,12 @@ same-length-5 : tie.Need-same-length-5
 same-length-5 c = search needs
 
 returns : tie.Need-returns
-unfolding listStep listedBy
 returns c =
     let at-put = c .before .before .before .before in
     let at-feed = at-put .before .before .before .before .before .before .before .before .before .before .before in
     let at-if = at-feed .before .before .before .before .before in
     let fits = sym (at-if .before .has-space .ensures) ∙ at-if .if1 .taken in
-    let fed = at-feed .feed .ensures in
-    let put = rw (fed .says) at (at-put .put-line .ensures) in
-    let number = rw (fed .says) at (c .before .next-number .ensures) in
-    let listed = rw (fed .says) at (c .listed-as .ensures) in
-    record { says = rw (fits, listed, fed .hands-back, number, put .tells); packet-buffer = rw (fits, fed .packet-buffer); answer-buffer = rw (fits, fed .answer-buffer); in-flash = rw (fits, fed .in-flash); in-words = rw (fits, fed .in-words); in-text = rw (fits, put .leaves) }
+    lists-fed _ _ _ _ _ _ _ _ fits _ _ _ _ _ (at-feed .feed-run .ensures) _ _ _ (c .listed-as .result) (at-put .put-line .ensures) (c .before .next-number .ensures) (c .listed-as .ensures)
 
 returns-2 : tie.Need-returns-2
 unfolding listStep full
@@ -57,12 +53,12 @@ returns-2 c =
     let no-space = sym (c .before .has-space .ensures) ∙ c .if1 .left in
     record { says = rw no-space; packet-buffer = rw no-space; answer-buffer = rw no-space; in-flash = rw no-space; in-words = rw no-space; in-text = rw no-space }
 
-pub feed-spec : {M : Type 1} → statement M
-feed-spec =
+pub feed-run-spec : {M : Type 1} → statement M
+feed-run-spec =
     tie.close
     (tie.spec
     has-space-requires
-    feed-requires
+    feed-run-requires
     put-line-requires
     next-number-requires
     listed-as-requires

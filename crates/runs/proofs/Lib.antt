@@ -1,0 +1,4 @@
+pub mod Passing
+pub mod Theorems
+pub mod Kept
+pub mod Cut
