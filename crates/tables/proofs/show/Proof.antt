@@ -1,4 +1,4 @@
-use mathlib.Core.Path.{refl}
+use mathlib.Core.Path.{refl, sym, _∙_}
 use borrow.Author.Tests.{le-leb, lt-leb}
 use Rattle.tables.proofs.Digits.{front, front-length}
 use borrow.Author.Needs.{needs}
@@ -45,7 +45,7 @@ write-all-requires-4 : tie.Need-write-all-requires-4
 write-all-requires-4 c κs = search needs
 
 returns-2 : tie.Need-returns-2
-returns-2 c = let a = c .before .before .before .before .before .before .before .before .before .before .before .before .before .before .args in rw (le-leb _ _ (c .before .before .before .before .before .before .before .before .if1 .left), ← (front _ (a .got .now) _ (c .before .before .before .before .before .before .before .before .if1 .left) refl (c .before .before .before .before .before .before .encode .ensures)), ← (c .before .before .before .same .ensures), c .before .before .if2 .taken) refl
+returns-2 c = let a = c .before .before .before .before .before .before .before .before .before .before .before .before .before .before .args in rw (le-leb _ _ (c .before .before .before .before .before .before .before .before .if1 .left), ← (front _ (a .got .now) _ (c .before .before .before .before .before .before .before .before .if1 .left) refl (c .before .before .before .before .before .before .encode .ensures))) (sym (c .before .before .if2 .taken) ∙ c .before .before .before .same .ensures)
 
 slice-aggregate-write-all-3 : tie.Need-slice-aggregate-write-all-3
 slice-aggregate-write-all-3 c = search needs
@@ -63,7 +63,7 @@ write-all-requires-7 : tie.Need-write-all-requires-7
 write-all-requires-7 c κs = search needs
 
 returns-3 : tie.Need-returns-3
-returns-3 c = let a = c .before .before .before .before .before .before .before .before .before .before .before .before .before .before .before .before .before .args in rw (le-leb _ _ (c .before .before .before .before .before .before .before .before .before .before .before .if1 .left), ← (front _ (a .got .now) _ (c .before .before .before .before .before .before .before .before .before .before .before .if1 .left) refl (c .before .before .before .before .before .before .before .before .before .encode .ensures)), ← (c .before .before .before .before .before .before .same .ensures), c .before .before .before .before .before .if2 .left) refl
+returns-3 c = let a = c .before .before .before .before .before .before .before .before .before .before .before .before .before .before .before .before .before .args in rw (le-leb _ _ (c .before .before .before .before .before .before .before .before .before .before .before .if1 .left), ← (front _ (a .got .now) _ (c .before .before .before .before .before .before .before .before .before .before .before .if1 .left) refl (c .before .before .before .before .before .before .before .before .before .encode .ensures))) (sym (c .before .before .before .before .before .if2 .left) ∙ c .before .before .before .before .before .before .same .ensures)
 
 pub show-spec : {M : Type 1} → statement M
 show-spec =
