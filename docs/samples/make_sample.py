@@ -6,8 +6,9 @@
   make_sample.py --large MIB FILE [TEXT]
                                   write a capture of about so many MiB, to time the listing with, and its listing to TEXT
 
-What is printed is worked out here from document 01 alone, by the class Chip. Each packet of the sample also says what
-it is there for and what it has to get, and a packet that gets something else stops the script.
+What is printed is worked out here from document 01 and request Two of document 02 alone, by the class Chip. Each packet
+of the sample also says what it is there for and what it has to get, its error or the reason it is dropped for, and a
+packet that gets something else stops the script.
 """
 import pathlib
 import struct
@@ -17,10 +18,11 @@ END, ESC = 0xC0, 0xDB
 WORDS_AT = 0x40100000
 SECTOR = 4096
 LONGEST = 4120
-DROPPED = None
+SHORTEST = 8
+REASONS = ("ESC", "CUT", "LONG", "SHORT", "DIR")
 
 
-# ---- document 01, the chip's end
+# ---- document 01 and request Two, the chip's end
 
 def up(x, step):
     return (x + step - 1) // step * step
@@ -63,25 +65,32 @@ class Chip:
 
     @staticmethod
     def unescape(stretch):
+        """The packet, or the reason that comes first in the stretch."""
         packet, at = bytearray(), 0
         while at < len(stretch):
             byte = stretch[at]
             if byte == ESC:
                 at += 1
-                if at == len(stretch) or stretch[at] not in (0xDC, 0xDD):
-                    return None
+                if at == len(stretch):
+                    return "CUT"
+                if stretch[at] not in (0xDC, 0xDD):
+                    return "ESC"
                 byte = END if stretch[at] == 0xDC else ESC
             packet.append(byte)
             if len(packet) > LONGEST:
-                return None
+                return "LONG"
             at += 1
         return packet
 
     def closed(self, stretch):
-        """(command, status, error) of a packet that is read, () of one that is dropped."""
+        """(command, status, error) of a packet that is read, the reason of one that is dropped."""
         packet = self.unescape(stretch)
-        if packet is None or len(packet) < 8 or packet[0] != 0:
-            return ()
+        if isinstance(packet, str):
+            return packet
+        if len(packet) < SHORTEST:
+            return "SHORT"
+        if packet[0] != 0:
+            return "DIR"
         command, size, total = struct.unpack_from("<xBHI", packet)
         body = bytes(packet[8:])
         error = self.error(command, size, total, body)
@@ -222,12 +231,12 @@ class Capture:
         self.expected = []
 
     def raw(self, line, why, *closes):
-        """Bytes of the line as they are, and what the packets that they close have to get."""
+        """Bytes of the line as they are, and what the packets that they close have to get: an error or a reason."""
         self.bytes += line
         self.expected += [(close, why) for close in closes]
 
-    def send(self, request, why, error=0):
-        self.raw(framed(request), why, error)
+    def send(self, request, why, close=0):
+        self.raw(framed(request), why, close)
 
 
 def sample():
@@ -244,18 +253,18 @@ def sample():
     begin, b0, b1, b2, b3, b4, end = load("flash", 5000, 1024, 8192, data, words(1))
     c.send(begin, "FLASH_BEGIN: 5,000 bytes in 5 blocks of 1,024 at 8,192")
     c.send(b0, "block 0, with C0 and DB in its data")
-    c.raw(b"\xC0" + escaped(b1)[:40] + b"\xDB\x41" + escaped(b1)[40:] + b"\xC0", "a bad escape, DB 41", DROPPED)
+    c.raw(b"\xC0" + escaped(b1)[:40] + b"\xDB\x41" + escaped(b1)[40:] + b"\xC0", "a bad escape, DB 41", "ESC")
     c.send(b1, "block 1 again, whole")
-    c.raw(b"\xC0" + escaped(b2)[:60] + b"\xDB\xC0", "an escape cut by the closing C0", DROPPED)
+    c.raw(b"\xC0" + escaped(b2)[:60] + b"\xDB\xC0", "an escape cut by the closing C0", "CUT")
     c.raw(escaped(b2) + b"\xC0", "block 2, opened by that C0", good)
-    c.raw(b"\xDB\xC0", "a cut escape with no byte stored: a packet all the same", DROPPED)
-    c.raw(b"\xC0" + b"\x00\x08" + b"\x55" * 4119 + b"\xC0", "4,121 bytes", DROPPED)
-    c.raw(b"\xC0" + b"\x00\x08" + b"\x55" * 4118 + b"\xDB\x41\xC0", "4,120 bytes and then a bad escape", DROPPED)
-    c.raw(b"\xC0" + b"\x00\x08" + b"\x55" * 4118 + b"\xDB\xDC\x11\xDB\xC0", "4,120 bytes, an escaped one too many, and more", DROPPED)
-    c.send(SYNC[:7], "7 bytes", DROPPED)
-    c.send(b"\x00", "1 byte", DROPPED)
-    c.send(packet(0x08, words(0), direction=1), "direction 1: an answer", DROPPED)
-    c.send(packet(0x04, words(0), direction=0xC0), "direction C0, escaped", DROPPED)
+    c.raw(b"\xDB\xC0", "a cut escape with no byte stored: a packet all the same", "CUT")
+    c.raw(b"\xC0" + b"\x00\x08" + b"\x55" * 4119 + b"\xC0", "4,121 bytes", "LONG")
+    c.raw(b"\xC0" + b"\x00\x08" + b"\x55" * 4118 + b"\xDB\x41\xC0", "4,120 bytes and then a bad escape", "ESC")
+    c.raw(b"\xC0" + b"\x00\x08" + b"\x55" * 4118 + b"\xDB\xDC\x11\xDB\xC0", "4,120 bytes, an escaped one too many, and more", "LONG")
+    c.send(SYNC[:7], "7 bytes", "SHORT")
+    c.send(b"\x00", "1 byte", "SHORT")
+    c.send(packet(0x08, words(0), direction=1), "direction 1: an answer", "DIR")
+    c.send(packet(0x04, words(0), direction=0xC0), "direction C0, escaped", "DIR")
     c.send(b3, "block 3: the drops changed nothing")
     c.send(end, "FLASH_END while block 4 is missing", 0xC8)
     c.send(b4, "block 4, 904 bytes and 120 times FF")
@@ -377,6 +386,81 @@ def sample():
         c.send(packet(command, b""), "a command that is not in the list", 0xFF)
     c.send(packet(0x0B, words(0), size=9), "and whose size is wrong: the command comes first", 0xFF)
 
+    # the reasons, alone, two and three of them at once, and packets one byte beside those: ESC, CUT and LONG by what
+    # came first in the stream, then SHORT, then DIR. No session is open, and one C0 stands between each two, so that
+    # every reason has to be forgotten at its C0
+    seven = SYNC[:7]
+    answer = packet(0x08, b"\x00\x00", direction=1)
+    full, back = (start.ljust(LONGEST, b"\x55") for start in (SYNC, answer))
+    for stretch, why, reason in (
+        (SYNC + b"\xDB\x41", "a bad escape at the end", "ESC"),
+        (SYNC + b"\xDB\xDE", "DE, the byte after the two good ones", "ESC"),
+        (SYNC[:20] + b"\xDB\x41" + SYNC[20:] + b"\xDB\x42", "two bad escapes", "ESC"),
+        (SYNC + b"\xDB", "a good SYNC and a cut escape", "CUT"),
+        (SYNC + b"\xDB\xDC\xDB", "a good escape and then a cut one", "CUT"),
+        # ESC and CUT
+        (SYNC + b"\xDB\x41\xDB", "a bad escape, and then DB before C0", "ESC"),
+        (SYNC[:20] + b"\xDB\x41" + SYNC[20:] + b"\xDB", "the same with bytes between", "ESC"),
+        (SYNC + b"\xDB\xDB", "DB DB: a bad escape, and the second DB opens none", "ESC"),
+        (SYNC + b"\xDB\xDB\xDC", "DB DB DC: neither does it here", "ESC"),
+        (b"\xDB\xDB", "DB DB with no byte stored", "ESC"),
+        (b"\xDB\xDB\xDB", "and a third DB before C0", "ESC"),
+        # ESC and LONG
+        (SYNC + b"\xDB\x41" + b"\x55" * 4121, "a bad escape and 4,121 bytes behind it", "ESC"),
+        (b"\xDB\x41" + full + b"\x55", "a bad escape in front of 4,121 bytes", "ESC"),
+        (full + b"\x55\xDB\x41", "4,121 bytes and then a bad escape", "LONG"),
+        (full + b"\xDB\x41", "4,120 bytes and then a bad escape: no byte 4,121", "ESC"),
+        (full + b"\xDB\x41\x55", "and one more byte", "ESC"),
+        (full + b"\xDB\xDB\xDC", "4,120 bytes and DB DB DC", "ESC"),
+        (full + b"\xDB\xDC", "4,120 bytes and DB DC", "LONG"),
+        (full + b"\xDB\xDD", "4,120 bytes and DB DD", "LONG"),
+        (full + b"\xDB\xDC\xDB\x41", "4,120 bytes, DB DC and a bad escape", "LONG"),
+        (full[:2000] + b"\xDB\xDC" + full[2000:], "4,121 bytes by way of an escape in the middle", "LONG"),
+        # CUT and LONG
+        (full + b"\x55\xDB", "4,121 bytes and then a cut escape", "LONG"),
+        (full + b"\xDB", "4,120 bytes and then a cut escape", "CUT"),
+        (full[:-1] + b"\xDB\xDC\xDB", "4,120 bytes, the last one escaped, and then a cut escape", "CUT"),
+        (full + b"\xDB\xDD\xDB", "4,120 bytes, DB DD and a cut escape", "LONG"),
+        # ESC and SHORT
+        (b"\xDB\x41", "a bad escape and nothing else", "ESC"),
+        (b"\xDB\x41" + SYNC[:3], "a bad escape and few bytes behind it", "ESC"),
+        (SYNC[:3] + b"\xDB\x41", "few bytes and a bad escape", "ESC"),
+        (SYNC[:3] + b"\xDB\x41" + SYNC[3:5], "few bytes before it and few behind", "ESC"),
+        (seven + b"\xDB\x41", "7 bytes and a bad escape", "ESC"),
+        (seven + b"\xDB\x41" + SYNC[7:], "and many bytes behind it", "ESC"),
+        # ESC and DIR
+        (answer + b"\xDB\x41", "direction 1 and then a bad escape", "ESC"),
+        (answer[:1] + b"\xDB\x41" + answer[1:], "a bad escape right behind direction 1", "ESC"),
+        (b"\xDB\x41" + answer, "a bad escape where the direction would stand, and then 01", "ESC"),
+        (b"\xDB" + answer, "DB 01: the bad escape is the direction itself", "ESC"),
+        (b"\x01\xDB\x41", "direction 1, a bad escape, and too short as well", "ESC"),
+        # CUT and SHORT, CUT and DIR
+        (b"\xDB", "a cut escape and nothing else", "CUT"),
+        (SYNC[:3] + b"\xDB", "few bytes and a cut escape", "CUT"),
+        (seven + b"\xDB", "7 bytes and a cut escape", "CUT"),
+        (answer + b"\xDB", "direction 1 and a cut escape", "CUT"),
+        (back + b"\xDB", "4,120 bytes with direction 1 and a cut escape", "CUT"),
+        (b"\x01\xDB", "direction 1, a cut escape, and too short as well", "CUT"),
+        # LONG and DIR
+        (back + b"\x55", "4,121 bytes with direction 1", "LONG"),
+        (back + b"\xDB\xDC", "the last of them escaped", "LONG"),
+        (b"\xDB\xDC" + full, "4,121 bytes with direction C0, escaped", "LONG"),
+        (back, "4,120 bytes with direction 1: the longest that is not LONG", "DIR"),
+        (back[:-1] + b"\xDB\xDD", "the last of them escaped: 4,121 on the line", "DIR"),
+        # SHORT and DIR
+        (b"\x01", "1 byte, 01", "SHORT"),
+        (b"\xDB\xDC", "1 byte, C0", "SHORT"),
+        (answer[:7], "7 bytes with direction 1", "SHORT"),
+        (answer[:6] + b"\xDB\xDC", "7 bytes with direction 1, 8 on the line", "SHORT"),
+        (seven[:6] + b"\xDB\xDD", "7 bytes with direction 0, 8 on the line", "SHORT"),
+        (answer[:8], "8 bytes with direction 1", "DIR"),
+        (answer[:7] + b"\xDB\xDC", "8 bytes with direction 1, 9 on the line", "DIR"),
+        (b"\xDB\xDD" + SYNC[1:], "direction DB, escaped", "DIR"),
+        (b"\xFF" + SYNC[1:], "direction FF", "DIR"),
+        (SYNC, "a good SYNC behind them all", good),
+    ):
+        c.raw(stretch + b"\xC0", why, reason)
+
     # one C0 between two packets, and the end of the capture in the middle of one
     c.raw(b"\xC0" + escaped(SYNC) + b"\xC0" + escaped(SYNC) + b"\xC0", "one C0 closes a packet and opens the next", good, good)
     c.raw(escaped(SYNC), "a packet that nothing closes")
@@ -386,7 +470,7 @@ def sample():
 # ---- the listing
 
 def line(number, got):
-    fields = ["%02X" % value for value in got] if got else ["--"] * 3
+    fields = ["--", "--", got] if got in REASONS else ["%02X" % value for value in got]
     return "\t".join([str(number)] + fields) + "\n"
 
 
@@ -404,9 +488,11 @@ def made():
     capture = sample()
     text, answers = listing(capture.bytes)
     assert len(answers) == len(capture.expected), (len(answers), len(capture.expected))
-    for number, (got, (error, why)) in enumerate(zip(answers, capture.expected), 1):
-        has = got[2] if got else DROPPED
-        assert has == error, "packet %d (%s): %s, and %s was meant" % (number, why, got, error)
+    for number, (got, (meant, why)) in enumerate(zip(answers, capture.expected), 1):
+        has = got if got in REASONS else got[2]
+        assert has == meant, "packet %d (%s): %s, and %s was meant" % (number, why, got, meant)
+    missing = set(REASONS) - set(answers)
+    assert not missing, "no packet for %s" % missing
     return bytes(capture.bytes), text
 
 

@@ -1,15 +1,15 @@
 -- What a fresh loader sends for one framed packet.
 use mathlib.Core.Path.{_≡_, refl}
 use mathlib.Core.List.{List}
-use mathlib.Core.Option.{some}
 use Prim.Native.Nat.{ℕ, _≤_}
 use lib.ListN.{length}
 use lib.Seq.{take-at}
 use Rattle.lists.specs.Lay.{lay}
 use Rattle.framing.specs.Frame.{longest, framed}
-use Rattle.framing.specs.Packets.{header}
-use Rattle.framing.specs.Line.{stepOf}
-use Rattle.framing.specs.Run.{fresh}
+use Rattle.unframing.specs.Reasons.{whole}
+use Rattle.packets.specs.Packets.{header}
+use Rattle.unframing.specs.Line.{stepOf}
+use Rattle.unframing.specs.Line.{fresh}
 use Rattle.effects.specs.Notes.{Order}
 use Rattle.effects.specs.Handle.{replied, handle}
 use Rattle.answers.specs.Answer.{answerBytes}
@@ -19,7 +19,7 @@ use Rattle.cases.proofs.Fed.{packet-fed, freshCore, allowed-fresh}
 
 -- the answer's bytes are what is sent
 pub answered-with : (r : Lending) (p : List ℕ) → 1 ≤ length p → length p ≤ longest → (c e v : ℕ) (order : Order)
-    → handle (freshCore r) (header (some p)) .reply ≡ replied c e v order → sends r (framed p) ≡ framed (answerBytes c e v)
+    → handle (freshCore r) (header (whole p)) .reply ≡ replied c e v order → sends r (framed p) ≡ framed (answerBytes c e v)
 unfolding sends begun stepOf sentCount toldOf answerBuffer lay
 answered-with r p filled fits c e v order h =
     rw (packet-fed taken fresh (freshCore r) (r .packet) (r .answer) (allowed-fresh r) refl p filled fits, h) (take-at (framed (answerBytes c e v)) _ _ refl)

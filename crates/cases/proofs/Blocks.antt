@@ -2,7 +2,6 @@
 use mathlib.Core.Path.{_≡_, refl, sym, _∙_}
 use mathlib.Core.List.{List, [], _∷_, _++_}
 use mathlib.Core.Bool.{true}
-use mathlib.Core.Option.{some}
 use Prim.Native.Nat.{ℕ, suc, _+_, _-_, _*_, _^_, _≤_, _<_}
 use native.Mathlib.Omega.{arith}
 use borrow.Author.Tests.{eq-eqb}
@@ -13,7 +12,8 @@ use Rattle.fields.specs.Words as words
 use Rattle.fields.specs.Checksum.{xored, checksum}
 use Rattle.fields.proofs.Theorems.{word-back}
 use Rattle.framing.specs.Frame.{framed}
-use Rattle.framing.specs.Packets.{read, header}
+use Rattle.unframing.specs.Reasons.{whole}
+use Rattle.packets.specs.Packets.{read, header}
 use Rattle.commands.specs.Header.{command, sized, shaped, dataShaped}
 use Rattle.begins.specs.Begin.{beginOf, roundUp, counted, flashRule}
 use Rattle.commands.specs.Block.{payload, zeroWords, sumGood, padding, paddingGood}
@@ -49,7 +49,7 @@ module _ (k : ℕ) (d : List ℕ) (b : Block d) where
   packet-length : length packet ≡ 1048
   packet-length = rw (b .full)
 
-  packet-read : header (some packet) ≡ read packet
+  packet-read : header (whole packet) ≡ read packet
   unfolding header
   packet-read = rw packet-length
 
@@ -57,7 +57,7 @@ module _ (k : ℕ) (d : List ℕ) (b : Block d) where
   unfolding checksum
   checksum-word = omega (arith, xored-byte d 0xEF (omega arith) (b .each))
 
-  good : k < 2 ^ 32 → allAre 0xFF (drop (5000 - k * 1024) d) ≡ true → goodBlock load k (header (some packet)) ≡ true
+  good : k < 2 ^ 32 → allAre 0xFF (drop (5000 - k * 1024) d) ≡ true → goodBlock load k (header (whole packet)) ≡ true
   unfolding command sized dataShaped words.half words.word zeroWords sumGood paddingGood padding payload
   good h padded =
       rw packet-read (block-whole load k packet (record {
@@ -70,7 +70,7 @@ module _ (k : ℕ) (d : List ℕ) (b : Block d) where
         padded = padded;
       }))
 
-  carried : carries (header (some packet)) ≡ d
+  carried : carries (header (whole packet)) ≡ d
   unfolding carries payload
   carried = rw packet-read
 
@@ -85,7 +85,7 @@ record Loading (f : List ℕ) (k : ℕ) (img : List ℕ) (s : Step) : Type 0 whe
 begins : (r : Lending) → length (r .flash) ≡ 0x10000 → Loading (r .flash) 0 [] (fed (begun r) (framed (beginPacket 5000 5 1024 8192)))
 unfolding header command shaped sized words.half words.word flashBegin grammar.begins beginOf flashRule counted roundUp
 begins r h =
-    let t = began (freshCore r) (header (some (beginPacket 5000 5 1024 8192))) (rw h) in
+    let t = began (freshCore r) (header (whole (beginPacket 5000 5 1024 8192))) (rw h) in
     record {
       core = _;
       idle = idle-after (idle-fresh r) (beginPacket 5000 5 1024 8192) (omega arith) (omega arith);
@@ -99,7 +99,7 @@ next : {f : List ℕ} {k : ℕ} {img : List ℕ} {s : Step} → Loading f k img 
     → Loading f (k + 1) (img ++ d) (fed s (framed (dataPacket k d)))
 next {f} {k} {img} {s} l lt d b padded =
     let n = packet-length k d b in
-    let t = accepts (l .core) load k (header (some (dataPacket k d))) (l .session) lt (good k d b (omega arith) padded) in
+    let t = accepts (l .core) load k (header (whole (dataPacket k d))) (l .session) lt (good k d b (omega arith) padded) in
     record {
       core = _;
       idle = idle-after (l .idle) (dataPacket k d) (omega arith) (omega arith);

@@ -7,7 +7,7 @@ use lib.ListN.{length, drop}
 use Rattle.lists.specs.Lay.{lay}
 use Rattle.loader.specs.Step.{Step, Told, refused, taken, dropped, answered}
 use Rattle.loader.specs.RunStep.{RunStep}
-use Rattle.loader.proofs.Theorems.{run-refused-changes-nothing}
+use Rattle.claims.proofs.ChangesNothing.{run-refused-changes-nothing}
 use Rattle.report.specs.Lines.{lineOf, hasSpace}
 use Rattle.report.specs.Listing as report
 use Rattle.report.specs.Listing.{numberAfter, reportOf, listedBy, listStep}
@@ -49,7 +49,7 @@ says-listed : (t : Told) → ((n : ℕ) → t ≡ refused n → ⊥) → (next :
 unfolding reportOf
 says-listed (refused n) free next used count = absurd (free n refl)
 says-listed taken free next used count = refl
-says-listed (dropped n) free next used count = refl
+says-listed (dropped n w) free next used count = refl
 says-listed (answered n c s e sent order) free next used count = refl
 
 module _ (p : Page) (space : HasSpace p) (good : Passes (under p)) where

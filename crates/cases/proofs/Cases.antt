@@ -9,7 +9,7 @@ use Rattle.fields.specs.Checksum.{xored, checksum}
 use Rattle.fields.specs.Merge.{mergedBits, merged}
 use Rattle.fields.specs.Pins.{pinGood, pinField, pinsGood, pinsWord, packingOf}
 use Rattle.framing.specs.Frame.{escaped, framed}
-use Rattle.framing.specs.Packets.{header}
+use Rattle.packets.specs.Packets.{header}
 use Rattle.commands.specs.Header.{command, sized, shaped}
 use Rattle.begins.specs.Begin.{beginOf, roundUp, counted, flashRule}
 use Rattle.commands.specs.Parameters.{syncRule}

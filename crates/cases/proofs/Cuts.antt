@@ -10,10 +10,11 @@ use borrow.Author.Tests.{eqb-true, eqb-false}
 use lib.Dec.{eqb}
 use lib.ListN.{length, drop}
 use Rattle.lists.proofs.Laws.{lay-nil}
-use Rattle.loader.specs.Refusals.{refusal}
+use Rattle.loader_state.specs.Refusals.{refusal}
 use Rattle.loader.specs.Step.{Step, Told, refused, taken, dropped, answered, bufferLengths, refusing}
 use Rattle.loader.specs.RunStep.{refusingRun}
-use Rattle.loader.proofs.Theorems.{run-stopped, empty-run-changes-nothing}
+use Rattle.loader.proofs.Judged.{run-stopped}
+use Rattle.claims.proofs.ChangesNothing.{empty-run-changes-nothing}
 use Rattle.loader.proofs.Runs.{later}
 use Rattle.claims.specs.HoweverCut.{joined}
 use Rattle.report.specs.Lines.{lineOf, hasSpace}
@@ -104,7 +105,7 @@ splits p b bs = by-space (hasSpace (length (p .text)) (p .used)) refl
     by-told : HasSpace p → Passes (under p) → (t : Told) → feeding.called (under p) b .told ≡ t → Splits p b bs
     by-told space good taken e = quiet-splits p space good b e bs
     by-told space good (refused n) e = closing-splits p space good b (λ f. let z : _≡_ {A = ℕ} 0 1 = cc in omega arith) bs
-    by-told space good (dropped n) e = closing-splits p space good b (λ f. let z : _≡_ {A = ℕ} 0 1 = cc in omega arith) bs
+    by-told space good (dropped n w) e = closing-splits p space good b (λ f. let z : _≡_ {A = ℕ} 0 1 = cc in omega arith) bs
     by-told space good (answered n c status error sent order) e = closing-splits p space good b (λ f. let z : _≡_ {A = ℕ} 0 1 = cc in omega arith) bs
 
     by-number : HasSpace p → (t : Bool) → eqb number 0 ≡ t → Splits p b bs

@@ -1,7 +1,6 @@
 -- The example: two packets, and one that is dropped, each fed to a loader that stands between packets.
 use mathlib.Core.Path.{_≡_, refl, ap, _∙_}
 use mathlib.Core.List.{List, [], _∷_, _++_}
-use mathlib.Core.Option.{some}
 use Prim.Native.Nat.{ℕ, _+_, _≤_}
 use native.Mathlib.Omega.{arith}
 use lib.ListN.{length, replicate, length-replicate}
@@ -12,7 +11,8 @@ use Rattle.lists.proofs.Laws.{lay-lay, length-lay}
 use Rattle.fields.specs.Words as words
 use Rattle.framing.specs.Frame.{longest}
 use Rattle.answers.specs.Reply.{longestAnswer}
-use Rattle.framing.specs.Packets.{header}
+use Rattle.unframing.specs.Reasons.{letters, whole}
+use Rattle.packets.specs.Packets.{header}
 use Rattle.commands.specs.Header.{command, sized, shaped}
 use Rattle.commands.specs.Parameters.{syncRule}
 use Rattle.sessions.specs.Errors.{kind, plainChecks, endChecks, checks, errorOf}
@@ -20,11 +20,12 @@ use Rattle.sessions.specs.Session.{flashOpen}
 use Rattle.effects.specs.Core.{Core}
 use Rattle.effects.specs.Effects.{effect}
 use Rattle.effects.specs.Handle.{carriedOut, failed, handle}
-use Rattle.loader.specs.Refusals.{bufferChecks, flashLength, wordCount}
+use Rattle.loader_state.specs.Refusals.{bufferChecks, flashLength, wordCount}
 use Rattle.loader.specs.Step.{bufferLengths, toldOf}
 use Rattle.claims.specs.HoweverCut.{joined}
 use Rattle.report.specs.Numbers.{digits, decimal}
-use Rattle.report.specs.Lines.{heading, longestLine, lineOf}
+use Rattle.columns.specs.Columns.{heading}
+use Rattle.report.specs.Lines.{longestLine, lineOf}
 use Rattle.report.specs.Listing.{numberAfter}
 use Rattle.cases.specs.Feeding.{Lending, begun, framedAll}
 use Rattle.cases.specs.Packets.{syncPacket, endPacket}
@@ -61,10 +62,10 @@ module _ (r : Lending) where
 
   -- the core after the two packets
   abbrev ended : Core
-  ended = handle (handle (freshCore r) (header (some (syncPacket 36 32))) .core) (header (some (endPacket 0))) .core
+  ended = handle (handle (freshCore r) (header (whole (syncPacket 36 32))) .core) (header (whole (endPacket 0))) .core
 
   third-line : lineOf 3 (toldFor ended (0x55 ∷ [])) ≡ line3
-  unfolding lineOf decimal digits toldOf header handle
+  unfolding lineOf letters decimal digits toldOf header handle
   third-line = refl
 
   third : lines 3 ended ((0x55 ∷ []) ∷ []) ≡ line3
@@ -82,7 +83,7 @@ own-lengths : bufferLengths (replicate longest 0) (replicate longestAnswer 0) (r
 own-lengths = simp length-replicate
 
 pub example : Example
-unfolding lines Fit decimal digits bufferChecks flashLength wordCount first
+unfolding lines Fit lineOf letters decimal digits bufferChecks flashLength wordCount first
 example =
     record {
       as-printed = λ r buffer.
@@ -93,6 +94,11 @@ example =
           below-heading r buffer (syncPacket 36 32 ∷ endPacket 0 ∷ (0x55 ∷ []) ∷ []) (line1 ++ (line2 ++ line3))
           (omega arith, (omega arith, (omega arith, (omega arith, (omega arith, (omega arith, tt))))))
           (two r ((0x55 ∷ []) ∷ []) ∙ ap (λ x. line1 ++ (line2 ++ x)) (third r));
+      bad-escape = λ stored. refl;
+      cut-escape = λ stored. refl;
+      too-long = λ stored. refl;
+      too-short = λ stored. refl;
+      wrong-direction = λ stored. refl;
       however-cut = λ p runs. runs-listed runs p;
       calls-enough = enough;
       own-buffers = ap (λ x. first (bufferChecks x)) own-lengths;

@@ -14,22 +14,25 @@ use Rattle.lists.proofs.Laws.{length-lay}
 use Rattle.lists.proofs.Tests.{first-passed, first-append}
 use Rattle.fields.specs.Pins.{attachGood}
 use Rattle.framing.specs.Frame.{END, longest, escaped, framed}
-use Rattle.framing.specs.Packets.{header}
-use Rattle.framing.specs.Line.{Step as ByteStep, lineState, silent, closed, stepOf}
-use Rattle.framing.specs.Run.{fresh, closedPackets, stateAfter, bufferAfter}
-use Rattle.framing.specs.declared.Line.{Line}
-use Rattle.framing.specs.declared.Phase.the-variants.{Inside}
-use Rattle.framing.proofs.Unescape.{means-escaped}
-use Rattle.framing.proofs.Cut.{clean-escaped}
-use Rattle.framing.proofs.Invariant as invariant
-use Rattle.framing.proofs.Invariant.{Pend, inside, Fed, still, whole, broken, pend-fresh, pend-opened, pend-held}
-use Rattle.framing.proofs.Runs.{escaped-leads}
+use Rattle.unframing.specs.Reasons.{whole}
+use Rattle.packets.specs.Packets.{header}
+use Rattle.unframing.specs.Line.{Step as ByteStep, lineState, silent, closed, stepOf}
+use Rattle.packets.specs.Run.{closedPackets, stateAfter, bufferAfter}
+use Rattle.unframing.specs.Line.{fresh}
+use Rattle.unframing.specs.declared.Line.{Line}
+use Rattle.unframing.specs.declared.Phase.the-variants.{Inside}
+use Rattle.packets.proofs.Unescape.{means-escaped}
+use Rattle.packets.proofs.Cut.{clean-escaped}
+use Rattle.packets.proofs.Invariant as invariant
+use Rattle.packets.proofs.Invariant.{Pend, inside, Fed, still, closes, pend-fresh, pend-opened, pend-held}
+use Rattle.packets.proofs.Runs.{escaped-leads}
 use Rattle.sessions.specs.Session.{sessionGood}
 use Rattle.effects.specs.Core.{Core}
 use Rattle.effects.specs.Handle.{Handled, handle}
-use Rattle.loader.specs.Refusals.{BufferLengths, bufferChecks, recordGood, refusal}
-use Rattle.loader.specs.Step.{Step, Told, taken, freshLoader, coreOf, step, afterPacket, afterByte, bufferLengths, answerBuffer, toldOf}
-use Rattle.loader.specs.declared.Loader.{Loader}
+use Rattle.loader_state.specs.Refusals.{BufferLengths, bufferChecks, recordGood, refusal}
+use Rattle.loader_state.specs.Record.{freshLoader}
+use Rattle.loader.specs.Step.{Step, Told, taken, coreOf, step, afterPacket, afterByte, bufferLengths, answerBuffer, toldOf}
+use Rattle.loader_state.specs.declared.Loader.{Loader}
 use Rattle.history.proofs.Lengths.{Sound, keeps, sound-after}
 use Rattle.claims.specs.Calls.{Called, stepped, EachCall}
 use Rattle.claims.proofs.Line.{follows}
@@ -107,9 +110,7 @@ quiet-step bs rest b l c packet answer a s q (still l′ after o′ f k p w) e =
     let n : Allowed l′ c after answer o′ = record { buffers = rw k (a .buffers); pending = p; sound = a .sound } in
     let g = rest l′ c after answer o′ n (rw f at e) in
     rw (one-step l c packet answer a b s q, f) (g .0, (refl, g .1))
-quiet-step bs rest b l c packet answer a s q (whole n f x y w) e =
-    let g = rw f at e in let z : _≡_ {A = ℕ} 0 1 = cc in absurd (omega arith)
-quiet-step bs rest b l c packet answer a s q (broken n f x y w) e =
+quiet-step bs rest b l c packet answer a s q (closes n d f x y w) e =
     let g = rw f at e in let z : _≡_ {A = ℕ} 0 1 = cc in absurd (omega arith)
 
 quiet-fed : (bs : List ℕ) → Quiet bs
@@ -148,9 +149,9 @@ module _ (t : Told) (l : Line) (c : Core) (packet answer : List ℕ) {o : Option
       let quiet = quiet-fed (escaped p) (lineState Inside 0) c packet answer (some []) allowed-open (led .closes) in
       (quiet .0 ∙ rw (led .state, led .after), quiet .1)
 
-  closes : stepOf (lineState Inside (length p)) END full ≡ closed (length p) (some (take (length p) full)) full
+  ends : stepOf (lineState Inside (length p)) END full ≡ closed (length p) (whole (take (length p) full)) full
   unfolding stepOf
-  closes =
+  ends =
       rw (ne-eqb (length p) 0 (λ e. omega arith), le-leb (length p) longest fits, le-leb (length p) (length full) (rw full-length (omega (arith, for-packet l c packet answer a))))
 
   allowed-full : Allowed (lineState Inside (length p)) c full answer (some (escaped p))
@@ -159,14 +160,14 @@ module _ (t : Told) (l : Line) (c : Core) (packet answer : List ℕ) {o : Option
 
   -- the packet handled, and what its last byte comes to
   abbrev handled : Handled
-  handled = handle c (header (some p))
+  handled = handle c (header (whole p))
 
   abbrev after : Step
   after = state (toldOf (length p) (handled .reply)) (lineState Inside 0) (handled .core) full (answerBuffer (handled .reply) answer)
 
   last-step : step (loaderOf (lineState Inside (length p)) c) END full answer (c .flash) (c .words) ≡ after
   unfolding afterByte afterPacket
-  last-step = rw (one-step (lineState Inside (length p)) c full answer allowed-full END _ closes, laid)
+  last-step = rw (one-step (lineState Inside (length p)) c full answer allowed-full END _ ends, laid)
 
   pub packet-fed : fed (state t l c packet answer) (framed p) ≡ after
   unfolding framed fed called
@@ -185,11 +186,11 @@ module _ (t : Told) (l : Line) (c : Core) (packet answer : List ℕ) {o : Option
   pub allowed-after : Allowed (lineState Inside 0) (handled .core) full (answerBuffer (handled .reply) answer) (some [])
   unfolding stepped
   allowed-after =
-      let k = keeps c (header (some p)) (a .sound .session) in
+      let k = keeps c (header (whole p)) (a .sound .session) in
       let n : length (answerBuffer (handled .reply) answer) ≡ length answer = rw last-step at (last-call .answer-length) in
       let f : length (handled .core .flash) ≡ length (c .flash) = ap (λ x. x .flash) (k .same-lengths) in
       let w : length (handled .core .words) ≡ length (c .words) = ap (λ x. x .words) (k .same-lengths) in
-      record { buffers = rw (n, f, w, full-length) (a .buffers); pending = pend-opened full; sound = sound-after c (header (some p)) (a .sound) }
+      record { buffers = rw (n, f, w, full-length) (a .buffers); pending = pend-opened full; sound = sound-after c (header (whole p)) (a .sound) }
 
 -- the core that a start begins with
 abbrev pub freshCore : Lending → Core
@@ -226,7 +227,7 @@ idle-fresh r =
 
 -- a framed packet is handled, and the loader is idle again
 pub idle-after : {s : Step} {c : Core} → Idle s c → (p : List ℕ) → 1 ≤ length p → length p ≤ longest
-    → Idle (fed s (framed p)) (handle c (header (some p)) .core)
+    → Idle (fed s (framed p)) (handle c (header (whole p)) .core)
 unfolding stepOf
 idle-after {s} {c} b p filled fits =
     record {
@@ -249,6 +250,6 @@ pub idle-takes : {s : Step} {c : Core} → Idle s c → (p : List ℕ) → 1 ≤
 idle-takes {s} {c} b p filled fits = rw (b .is) (packet-takes (b .told) (b .at) c (b .buffer) (b .answer) (b .allowed) (b .opens) p filled fits)
 
 pub idle-told : {s : Step} {c : Core} → Idle s c → (p : List ℕ) → 1 ≤ length p → length p ≤ longest
-    → fed s (framed p) .told ≡ toldOf (length p) (handle c (header (some p)) .reply)
+    → fed s (framed p) .told ≡ toldOf (length p) (handle c (header (whole p)) .reply)
 idle-told {s} {c} b p filled fits =
     ap (λ x. fed x (framed p) .told) (b .is) ∙ ap (λ x. x .told) (packet-fed (b .told) (b .at) c (b .buffer) (b .answer) (b .allowed) (b .opens) p filled fits)

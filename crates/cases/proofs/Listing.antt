@@ -1,7 +1,6 @@
 -- The calls of the listing print the lines of the packets that the loader handles, one behind the other.
 use mathlib.Core.Path.{_≡_, refl, sym, _∙_}
 use mathlib.Core.List.{List, [], _∷_, _++_}
-use mathlib.Core.Option.{some}
 use Prim.Native.Nat.{ℕ, zero, suc, _+_, _≤_}
 use native.Mathlib.Nat.{add-zero}
 use native.Mathlib.Omega.{arith}
@@ -11,7 +10,8 @@ use lib.Seq.{drop-at}
 use Rattle.lists.specs.Lay.{lay}
 use Rattle.lists.proofs.Laws.{lay-nil, lay-lay, length-lay}
 use Rattle.framing.specs.Frame.{END, longest, escaped, framed}
-use Rattle.framing.specs.Packets.{header}
+use Rattle.unframing.specs.Reasons.{whole}
+use Rattle.packets.specs.Packets.{header}
 use Rattle.effects.specs.Core.{Core}
 use Rattle.effects.specs.Handle.{handle}
 use Rattle.loader.specs.Step.{Step, Told, toldOf}
@@ -25,12 +25,12 @@ use Rattle.cases.proofs.Calls.{pageOf, fed-call}
 
 -- what the call that closes a packet tells, where the core is c
 abbrev pub toldFor : Core → List ℕ → Told
-toldFor c p = toldOf (length p) (handle c (header (some p)) .reply)
+toldFor c p = toldOf (length p) (handle c (header (whole p)) .reply)
 
 -- the lines of packets that are handled one after the other, the first with this number
 unfoldable pub lines : ℕ → Core → List (List ℕ) → List ℕ
 lines number c [] = []
-lines number c (p ∷ ps) = lineOf number (toldFor c p) ++ lines (numberAfter (toldFor c p) number) (handle c (header (some p)) .core) ps
+lines number c (p ∷ ps) = lineOf number (toldFor c p) ++ lines (numberAfter (toldFor c p) number) (handle c (header (whole p)) .core) ps
 
 -- packets that are not empty and fit the packet buffer
 unfoldable pub Fit : List (List ℕ) → Type 0
@@ -69,7 +69,7 @@ lines-listed [] {s} {c} i fit number text used h k enough =
     rw (none-left k (pageOf s number text used)) (record { in-text = sym (lay-nil text used); is-used = sym (add-zero used) })
 lines-listed (p ∷ ps) {s} {c} i fit number text used h zero enough = absurd (omega arith)
 lines-listed (p ∷ ps) {s} {c} i fit number text used h (suc k) enough =
-    let core = handle c (header (some p)) .core in
+    let core = handle c (header (whole p)) .core in
     let line = lineOf number (toldFor c p) in
     let then = numberAfter (toldFor c p) number in
     let more = lines then core ps in

@@ -6,15 +6,16 @@ use Prim.Native.Nat.{ℕ, _+_, _≤_}
 use native.Mathlib.Omega.{arith}
 use lib.ListN.{length, length-append}
 use Rattle.framing.specs.Frame.{END, longest, escaped, framed}
-use Rattle.framing.specs.Packets.{header}
-use Rattle.framing.specs.Line.{Closed, stepOf}
-use Rattle.framing.specs.declared.Line.{Line}
+use Rattle.unframing.specs.Reasons.{whole}
+use Rattle.packets.specs.Packets.{header}
+use Rattle.unframing.specs.Line.{Closed, stepOf}
+use Rattle.unframing.specs.declared.Line.{Line}
 use Rattle.effects.specs.Core.{Core}
 use Rattle.effects.specs.Handle.{Reply, nothing, replied, handle}
-use Rattle.loader.specs.Refusals.{refusal}
+use Rattle.loader_state.specs.Refusals.{refusal}
 use Rattle.loader.specs.Step.{Step, taken, coreOf, bufferLengths, toldOf, afterPacket, afterByte}
 use Rattle.loader.specs.RunStep.{RunStep, runStep}
-use Rattle.loader.specs.declared.Loader.{Loader}
+use Rattle.loader_state.specs.declared.Loader.{Loader}
 use Rattle.loader.proofs.Runs.{later, still-good, byte-passed, byte-silent, goes-on, closes-there}
 use Rattle.cases.specs.Feeding.{called, fed}
 use Rattle.cases.proofs.Fed.{Takes, Idle, fed-append, idle-passes, idle-takes, idle-told}
@@ -29,7 +30,7 @@ Passes s = refusal (s .loader) (bufferLengths (s .packet) (s .answer) (s .flash)
 -- a call that closes a packet does not tell its bytes as taken
 never-taken : (n : ℕ) (y : Reply) → toldOf n y ≡ taken → ⊥
 unfolding toldOf
-never-taken n nothing e = let z : _≡_ {A = ℕ} 0 1 = cc in omega arith
+never-taken n (nothing w) e = let z : _≡_ {A = ℕ} 0 1 = cc in omega arith
 never-taken n (replied c x v order) e = let z : _≡_ {A = ℕ} 0 1 = cc in omega arith
 
 closes-none : (o : Option Closed) (l : Line) (r : Loader) (packet answer flash words : List ℕ)
@@ -96,5 +97,5 @@ packet-run {s} {c} i p filled fits more =
     let n : length (END ∷ escaped p) + 1 ≡ length (framed p) = omega (arith, length-append (escaped p) (END ∷ [])) in
     rw (append-assoc (escaped p) (END ∷ []) more)
     (takes-run (END ∷ escaped p) END more s (idle-passes i) (idle-takes i p filled fits)
-    (λ e. never-taken (length p) (handle c (header (some p)) .reply) (sym told ∙ ap (λ x. x .told) (sym last) ∙ e))
+    (λ e. never-taken (length p) (handle c (header (whole p)) .reply) (sym told ∙ ap (λ x. x .told) (sym last) ∙ e))
     ∙ rw (n, last))

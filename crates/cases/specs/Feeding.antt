@@ -5,8 +5,9 @@ use Prim.Native.Nat.{ℕ}
 use lib.ListN.{take}
 use Rattle.lists.specs.Checks.{first}
 use Rattle.framing.specs.Frame.{framed}
-use Rattle.loader.specs.Refusals.{bufferChecks}
-use Rattle.loader.specs.Step.{Step, Told, refused, taken, dropped, answered, freshLoader, bufferLengths, step}
+use Rattle.loader_state.specs.Refusals.{bufferChecks}
+use Rattle.loader_state.specs.Record.{freshLoader}
+use Rattle.loader.specs.Step.{Step, Told, refused, taken, dropped, answered, bufferLengths, step}
 
 -- buffers that refusals 1 to 4 let pass
 pub record Lending : Type 0 where
@@ -46,7 +47,7 @@ framedAll (p ∷ ps) = framed p ++ framedAll ps
 unfoldable pub sentCount : Told → ℕ
 sentCount (refused n) = 0
 sentCount taken = 0
-sentCount (dropped n) = 0
+sentCount (dropped n w) = 0
 sentCount (answered n c s e sent order) = sent
 
 -- the bytes that the last call of a line sends, from a fresh loader on

@@ -3,7 +3,7 @@ use mathlib.Core.List.{List, [], _∷_}
 use Prim.Native.Nat.{ℕ, zero, suc}
 use lib.ListN.{length, drop}
 use Rattle.lists.specs.Lay.{lay}
-use Rattle.report.specs.Lines.{heading}
+use Rattle.columns.specs.Columns.{heading}
 use Rattle.report.specs.Listing.{freshListing, ListReport, not-fed, call-refused, ListStep, listStep}
 use Rattle.report.specs.Listing as report
 use Rattle.report.specs.declared.Listing.{Listing}

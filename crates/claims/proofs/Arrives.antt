@@ -13,21 +13,22 @@ use lib.Seq.{take-at}
 use Rattle.lists.specs.Lay.{lay}
 use Rattle.lists.proofs.Tests.{both}
 use Rattle.framing.specs.Frame.{END, longest, escaped, framed, refusal}
-use Rattle.framing.specs.Packets.{header}
-use Rattle.framing.specs.Line.{Closed, lineState, silent, stepOf}
-use Rattle.framing.specs.Run.{bufferAfter}
-use Rattle.framing.specs.Theorems.{BetweenPackets}
-use Rattle.framing.specs.declared.Line.{Line}
-use Rattle.framing.specs.declared.Phase.the-variants.{Outside, Inside}
-use Rattle.framing.proofs.Unescape.{means-escaped, means-full, closed-whole}
-use Rattle.framing.proofs.Cut.{clean-escaped, stretches-framed, todo, todo-first, todo-again, todo-open}
-use Rattle.framing.proofs.Invariant.{Pend, outside, Fed, still, whole, broken, pend-opened, todo-nil, fed}
-use Rattle.framing.proofs.Runs.{silent-leads, closed-ends}
-use Rattle.framing.proofs.Theorems.{round-trip, leaves}
+use Rattle.unframing.specs.Reasons.{Contents, whole}
+use Rattle.packets.specs.Packets.{header}
+use Rattle.unframing.specs.Line.{Closed, lineState, silent, stepOf}
+use Rattle.packets.specs.Run.{bufferAfter}
+use Rattle.packets.specs.Theorems.{BetweenPackets}
+use Rattle.unframing.specs.declared.Line.{Line}
+use Rattle.unframing.specs.declared.Phase.the-variants.{Outside, Inside}
+use Rattle.packets.proofs.Unescape.{means-escaped, means-full, closed-whole}
+use Rattle.packets.proofs.Cut.{clean-escaped, stretches-framed, todo, todo-first, todo-again, todo-open}
+use Rattle.packets.proofs.Invariant.{Pend, outside, Fed, still, closes, pend-opened, todo-nil, fed}
+use Rattle.packets.proofs.Runs.{silent-leads, closed-ends}
+use Rattle.packets.proofs.Theorems.{round-trip, leaves}
 use Rattle.sessions.specs.Session.{sessionGood}
 use Rattle.effects.specs.Handle.{handle}
-use Rattle.loader.specs.Refusals.{lengthsOf, recordGood}
-use Rattle.loader.specs.Refusals as loader
+use Rattle.loader_state.specs.Refusals.{lengthsOf, recordGood}
+use Rattle.loader_state.specs.Refusals as loader
 use Rattle.loader.specs.Step.{taken, afterPacket, afterByte, bufferLengths}
 use Rattle.history.proofs.Lengths.{Sound}
 use Rattle.claims.specs.Calls.{Machine, Call, stepped, next, passes, closingCall, closingCalls}
@@ -158,8 +159,7 @@ quiet-fed m c cs o r h a e go (still l buffer o′ f k p w) =
     quiet-more m c cs o r h l buffer o′ f k w
     (go (heard m l buffer) o′ (record { pending = p; sound = r .sound }) (same-all (record { buffer = k; flash = refl; words = refl }) cs a)
     (sym (w (bytes cs)) ∙ e))
-quiet-fed m c cs o r h a e go (whole n f x y w) = none-closed (sym (w (bytes cs)) ∙ e)
-quiet-fed m c cs o r h a e go (broken n f x y w) = none-closed (sym (w (bytes cs)) ∙ e)
+quiet-fed m c cs o r h a e go (closes n d f x y w) = none-closed (sym (w (bytes cs)) ∙ e)
 
 pub quiet : (cs : List Call) (m : Machine) (o : Option (List ℕ)) → Ready m o → AllPass m cs → todo o (bytes cs) ≡ [] → Quiet m o cs
 unfolding bytes toldBy after
@@ -177,38 +177,27 @@ quiet (c ∷ cs) m o r a e =
     quiet-fed m c cs o r (a .0) (a .1) e (quiet cs)
     (fed (m .loader .line) (c .byte) (m .buffer) (long-enough m c (a .0) .packet) (r .pending))
 
-closed-none : {n k : ℕ} {b : List ℕ} {ds : List Closed} {A : Type 0}
-    → record { stored = n; contents = none } ∷ ds ≡ record { stored = k; contents = some b } ∷ [] → A
-closed-none {n} {k} {b} e =
-    let d : _≡_ {A = Closed} (record { stored = n; contents = none }) (record { stored = k; contents = some b }) = cc in
-    let q : none ≡ some b = ap (λ x. x .contents) d in
-    let z : _≡_ {A = ℕ} 0 1 = cc in
-    absurd (omega arith)
-
-closed-same : {n k : ℕ} {a b : List ℕ} {ds : List Closed}
-    → record { stored = n; contents = some a } ∷ ds ≡ record { stored = k; contents = some b } ∷ [] → (n ≡ k) × (a ≡ b)
+closed-same : {n k : ℕ} {a b : Contents} {ds : List Closed}
+    → record { stored = n; contents = a } ∷ ds ≡ record { stored = k; contents = b } ∷ [] → (n ≡ k) × (a ≡ b)
 closed-same {n} {k} {a} {b} e =
-    let d : _≡_ {A = Closed} (record { stored = n; contents = some a }) (record { stored = k; contents = some b }) = cc in
-    let q : some a ≡ some b = ap (λ x. x .contents) d in
-    (ap (λ x. x .stored) d, cc)
+    let d : _≡_ {A = Closed} (record { stored = n; contents = a }) (record { stored = k; contents = b }) = cc in
+    (ap (λ x. x .stored) d, ap (λ x. x .contents) d)
 
 -- a call that closes one packet, the packet p: its step, and that the packet buffer stays
 record ClosesOne (m : Machine) (c : Call) (p : List ℕ) : Type 0 where
   step :
       stepped m c
-      ≡ afterPacket (lineState Inside 0) (length p) (handle (coreAt m) (header (some p))) (m .buffer) (c .answer)
+      ≡ afterPacket (lineState Inside 0) (length p) (handle (coreAt m) (header (whole p))) (m .buffer) (c .answer)
   buffer : bufferAfter (m .loader .line) (m .buffer) (c .byte ∷ []) ≡ m .buffer
 
 closes-one : (m : Machine) (c : Call) (p : List ℕ) (o : Option (List ℕ)) → Ready m o → passes m c ≡ true
-    → todo o (c .byte ∷ []) ≡ record { stored = length p; contents = some p } ∷ []
+    → todo o (c .byte ∷ []) ≡ record { stored = length p; contents = whole p } ∷ []
     → Fed (m .buffer) o (c .byte) (stepOf (m .loader .line) (c .byte) (m .buffer)) → ClosesOne m c p
 unfolding afterByte
 closes-one m c p o r h e (still l buffer o′ f k q w) = none-closed (sym e ∙ w [] ∙ todo-nil q)
-closes-one m c p o r h e (whole n f x y w) =
-    let z : (n ≡ length p) × (take n (m .buffer) ≡ p) = closed-same (sym (w []) ∙ e) in
+closes-one m c p o r h e (closes n d f x y w) =
+    let z : (n ≡ length p) × (d ≡ whole p) = closed-same (sym (w []) ∙ e) in
     record { step = step-passes m c r h _ f ∙ rw (z .1, z .0); buffer = closed-ends _ _ _ _ _ f .after }
-closes-one m c p o r h e (broken n f x y w) =
-    closed-none (sym (w []) ∙ e)
 
 -- two lists with one more element each
 snoc-front : (xs ys : List ℕ) (a b : ℕ) → xs ++ a ∷ [] ≡ ys ++ b ∷ [] → xs ≡ ys
@@ -237,7 +226,7 @@ taken-close m (c ∷ cs) e =
 
 -- a framed packet is to be closed as that packet, and without its last C0 nothing is
 module _ (p : List ℕ) (filled : 1 ≤ length p) (fits : length p ≤ longest) where
-  todo-framed : todo (some []) (escaped p ++ END ∷ []) ≡ record { stored = length p; contents = some p } ∷ []
+  todo-framed : todo (some []) (escaped p ++ END ∷ []) ≡ record { stored = length p; contents = whole p } ∷ []
   unfolding todo framed
   todo-framed =
       sym (todo-first (escaped p ++ END ∷ []))
@@ -286,7 +275,7 @@ module _ (p : List ℕ) (filled : 1 ≤ length p) (fits : length p ≤ longest) 
         ∙ ap (bufferAfter (m .loader .line) (m .buffer)) whole-line
         ∙ round-trip (m .loader .line) (m .buffer) p between-packets (long-enough m c (all-last m cs c passing) .packet) filled fits .buffer
 
-    last-step : stepped (after m cs) c ≡ afterPacket (lineState Inside 0) (length p) (handle (coreAt m) (header (some p))) (lay (m .buffer) 0 p) (c .answer)
+    last-step : stepped (after m cs) c ≡ afterPacket (lineState Inside 0) (length p) (handle (coreAt m) (header (whole p))) (lay (m .buffer) 0 p) (c .answer)
     last-step = rw (← laid, ← hushed .same) (closing .step)
 
     arrived : Arrived m p cs c

@@ -6,10 +6,10 @@ use Prim.Native.Nat.{ℕ, zero, suc, _<_}
 use native.Mathlib.Omega.{arith}
 use lib.ListN.{length, getD}
 use Rattle.fields.specs.Pins.{attachGood}
-use Rattle.framing.specs.Packets.{classify, stretches, stored, packets}
-use Rattle.framing.specs.Theorems.{closedAs}
-use Rattle.framing.proofs.Cut.{todo}
-use Rattle.framing.proofs.Invariant.{pend-fresh}
+use Rattle.packets.specs.Packets.{classify, stretches, stored, packets}
+use Rattle.packets.specs.Theorems.{closedAs}
+use Rattle.packets.proofs.Cut.{todo}
+use Rattle.packets.proofs.Invariant.{pend-fresh}
 use Rattle.sessions.specs.Session.{sessionGood}
 use Rattle.effects.specs.Core.{Core}
 use Rattle.effects.specs.Handle.{handle}

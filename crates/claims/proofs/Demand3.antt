@@ -5,7 +5,7 @@ use mathlib.Core.Bool.{Bool, true, false, cond, _&&_}
 use Prim.Native.Nat.{ℕ, _<_}
 use lib.Dec.{eqb}
 use lib.ListN.{length, take}
-use Rattle.framing.specs.Packets.{packets}
+use Rattle.packets.specs.Packets.{packets}
 use Rattle.commands.specs.Numbers.{FLASH-END}
 use Rattle.sessions.specs.Session.{flashOpen, sessionGood}
 use Rattle.effects.specs.Core.{Core, lengths}
@@ -26,7 +26,7 @@ use Rattle.claims.proofs.Line.{single, take-singles, single-closings, s
 -- a call tells the success of FLASH_END where its packet is so answered
 told-success : (n : ℕ) (r : Reply) → endsWell (toldOf n r) ≡ endSucceeds r
 unfolding endsWell toldOf endSucceeds
-told-success n nothing = refl
+told-success n (nothing w) = refl
 told-success n (replied c e v note) = go (eqb e 0)
   where
     go : (t : Bool) → (eqb c FLASH-END && (eqb (cond t 0 1) 0 && t)) ≡ (eqb c FLASH-END && t)

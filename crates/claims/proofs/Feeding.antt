@@ -8,12 +8,13 @@ use native.Mathlib.Numerals.{one-add}
 use borrow.Author.Tests.{eqb-true, eqb-false}
 use lib.Dec.{eqb}
 use lib.ListN.{take, drop}
-use Rattle.framing.specs.Packets.{header}
-use Rattle.framing.specs.Line.{Closed, stepOf}
+use Rattle.packets.specs.Packets.{header}
+use Rattle.unframing.specs.Line.{Closed, stepOf}
 use Rattle.effects.specs.Handle.{Reply, nothing, replied, handle}
 use Rattle.loader.specs.Step.{Step, taken, toldOf, refusing, afterByte, afterPacket, coreOf}
 use Rattle.loader.specs.RunStep.{RunStep, refusingRun}
-use Rattle.loader.proofs.Theorems.{refused-changes-nothing, run-stopped, empty-run-changes-nothing}
+use Rattle.loader.proofs.Judged.{run-stopped}
+use Rattle.claims.proofs.ChangesNothing.{refused-changes-nothing, empty-run-changes-nothing}
 use Rattle.loader.proofs.Runs.{stepped-on, later, still-good, byte-passed, byte-silent, goes-on, closes-there}
 use Rattle.claims.specs.Calls.{Machine, stepped, next}
 use Rattle.claims.specs.RunCalls.{ran, nextRun}
@@ -70,7 +71,7 @@ module _ (s : State) (bad : refusalAt s ≡ 0 → ⊥) where
 -- a closed packet: the call is not refused
 closed-taken : (n : ℕ) (r : Reply) (b : ℕ) → ifRefused (toldOf n r) b ≡ []
 unfolding toldOf ifRefused
-closed-taken n nothing b = refl
+closed-taken n (nothing w) b = refl
 closed-taken n (replied c e v order) b = refl
 
 module _ (s : State) (good : refusalAt s ≡ 0) where

@@ -8,16 +8,16 @@ use native.Mathlib.Omega.{arith}
 use borrow.Author.Tests.{eqb-true, eqb-false}
 use lib.Dec.{eqb}
 use lib.ListN.{length, take, drop, take-append-drop, length-drop}
-use Rattle.framing.specs.Packets.{header}
-use Rattle.framing.specs.Line.{Closed, stepOf}
-use Rattle.framing.proofs.Kept.{step-keeps}
+use Rattle.packets.specs.Packets.{header}
+use Rattle.unframing.specs.Line.{Closed, stepOf}
+use Rattle.unframing.proofs.Kept.{step-keeps}
 use Rattle.runs.proofs.Theorems.{takes-some}
 use Rattle.effects.specs.Handle.{handle}
 use Rattle.answers.specs.Reply.{longestAnswer}
 use Rattle.loader.specs.Step.{afterPacket, bufferLengths}
 use Rattle.loader.specs.RunStep.{taking}
-use Rattle.loader.proofs.Theorems.{run-passed}
-use Rattle.loader.proofs.LetPass.{let-pass, no-refusal, for-answer}
+use Rattle.loader.proofs.Judged.{run-passed}
+use Rattle.loader_state.proofs.LetPass.{let-pass, no-refusal, for-answer}
 use Rattle.history.proofs.Lengths.{keeps}
 use Rattle.claims.specs.Calls.{next}
 use Rattle.claims.specs.CallHistory.{coreAt}

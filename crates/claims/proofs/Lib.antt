@@ -1,9 +1,11 @@
+pub mod ChangesNothing
 pub mod Values
 pub mod Passing
 pub mod RunLine
 pub mod Line
 pub mod CallHistory
 pub mod Demand3
+pub mod Reasons
 pub mod Feeding
 pub mod RunsAreBytes
 pub mod HoweverCut

@@ -7,8 +7,8 @@ use mathlib.Core.Logic.{_⊎_, inl, inr}
 use Prim.Native.Nat.{ℕ, zero, suc, _<_}
 use native.Mathlib.Omega.{arith}
 use lib.ListN.{length, take}
-use Rattle.framing.specs.Packets.{packets}
-use Rattle.framing.proofs.Cut.{todo}
+use Rattle.packets.specs.Packets.{packets}
+use Rattle.packets.proofs.Cut.{todo}
 use Rattle.loader.proofs.Calls.{one-byte}
 use Rattle.claims.specs.Calls.{Machine, Call, stepped, next, passes, lineBytes, closingCalls, Called, EachCall}
 use Rattle.claims.specs.CallHistory.{coreAt}

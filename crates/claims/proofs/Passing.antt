@@ -11,16 +11,16 @@ use Rattle.lists.specs.Checks.{_orElse_, first}
 use Rattle.lists.proofs.Laws.{length-lay}
 use Rattle.lists.proofs.Tests.{Passed, first-passed, first-append}
 use Rattle.framing.specs.Frame.{longest, framed}
-use Rattle.framing.specs.Packets.{Packet, header}
-use Rattle.framing.specs.Line.{Closed, Step as ByteStep, stepOf}
-use Rattle.framing.proofs.Invariant.{Pend, pend-held}
+use Rattle.packets.specs.Packets.{Packet, header}
+use Rattle.unframing.specs.Line.{Closed, Step as ByteStep, stepOf}
+use Rattle.packets.proofs.Invariant.{Pend, pend-held}
 use Rattle.runs.specs.Run.{Run, runOf}
 use Rattle.effects.specs.Core.{Core}
 use Rattle.effects.specs.Handle.{Reply, nothing, replied, handle}
 use Rattle.answers.specs.Answer.{answerBytes}
 use Rattle.answers.specs.Reply.{longestAnswer}
 use Rattle.answers.proofs.Replies.{answer-most}
-use Rattle.loader.specs.Refusals.{BufferLengths, bufferChecks, lengthsOf, recordGood, refusal}
+use Rattle.loader_state.specs.Refusals.{BufferLengths, bufferChecks, lengthsOf, recordGood, refusal}
 use Rattle.loader.specs.Step as loader
 use Rattle.loader.specs.Step.{refused, taken, toldOf, answerBuffer, afterByte, bufferLengths}
 use Rattle.loader.specs.RunStep.{runStep, taking, refusingRun}
@@ -46,7 +46,7 @@ pub record Ready (m : Machine) (o : Option (List ℕ)) : Type 0 where
 
 pub told-never : (n : ℕ) (r : Reply) (k : ℕ) → toldOf n r ≡ refused k → ⊥
 unfolding toldOf
-told-never n nothing k e = let z : _≡_ {A = ℕ} 0 1 = cc in omega arith
+told-never n (nothing w) k e = let z : _≡_ {A = ℕ} 0 1 = cc in omega arith
 told-never n (replied a b c d) k e = let z : _≡_ {A = ℕ} 0 1 = cc in omega arith
 
 pub taken-never : (k : ℕ) → taken ≡ refused k → ⊥
@@ -54,17 +54,17 @@ taken-never k e = let z : _≡_ {A = ℕ} 0 1 = cc in omega arith
 
 pub closes-packet-one : (n : ℕ) (r : Reply) (f : List ℕ) → closingCall (toldOf n r) f ≡ record { told = toldOf n r; flash = f } ∷ []
 unfolding toldOf closingCall
-closes-packet-one n nothing f = refl
+closes-packet-one n (nothing w) f = refl
 closes-packet-one n (replied a b c d) f = refl
 
 pub answer-buffer-length : (r : Reply) (buffer : List ℕ) → longestAnswer ≤ length buffer → length (answerBuffer r buffer) ≡ length buffer
 unfolding answerBuffer
-answer-buffer-length nothing buffer h = refl
+answer-buffer-length (nothing w) buffer h = refl
 answer-buffer-length (replied c e v note) buffer h = length-lay buffer 0 (framed (answerBytes c e v)) (omega (arith, answer-most c e v))
 
 pub sent-by : (n : ℕ) (r : Reply) (buffer : List ℕ) → Valued r → Sent (toldOf n r) buffer (answerBuffer r buffer)
 unfolding Sent toldOf answerBuffer
-sent-by n nothing buffer z = refl
+sent-by n (nothing w) buffer z = refl
 sent-by n (replied c e v note) buffer z = record { value = v; zero = z; counted = refl; front = refl }
 
 module _ (m : Machine) (c : Call) where

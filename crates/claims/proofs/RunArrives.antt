@@ -4,14 +4,14 @@ use mathlib.Core.List.{List, _++_}
 use Prim.Native.Nat.{ℕ, _≤_}
 use lib.ListN.{length}
 use Rattle.framing.specs.Frame.{longest, framed}
-use Rattle.framing.specs.Theorems.{BetweenPackets}
-use Rattle.framing.proofs.Theorems.{leaves}
+use Rattle.packets.specs.Theorems.{BetweenPackets}
+use Rattle.packets.proofs.Theorems.{leaves}
 use Rattle.runs.proofs.Theorems.{run-comes-back}
-use Rattle.loader.specs.Refusals.{refusal}
+use Rattle.loader_state.specs.Refusals.{refusal}
 use Rattle.loader.specs.Step.{afterByte, bufferLengths}
 use Rattle.loader.specs.RunStep.{taking}
-use Rattle.loader.proofs.Theorems.{run-passed}
-use Rattle.loader.proofs.LetPass.{let-pass, for-packet}
+use Rattle.loader.proofs.Judged.{run-passed}
+use Rattle.loader_state.proofs.LetPass.{let-pass, for-packet}
 use Rattle.claims.specs.RunCalls.{ran}
 use Rattle.claims.specs.Calls.{Machine}
 use Rattle.claims.specs.RunArrives.{TakenAs, RunArrives}

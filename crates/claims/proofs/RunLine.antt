@@ -10,13 +10,13 @@ use lib.ListN.{length, take, length-append}
 use lib.Seq.{take-length}
 use Rattle.lists.proofs.Tests.{absurd-test}
 use Rattle.framing.specs.Frame.{END}
-use Rattle.framing.specs.Packets.{ended, nonempty, stretches, classify, packets}
-use Rattle.framing.specs.Line.{Closed, lineState}
-use Rattle.framing.specs.Theorems.{closedAs}
-use Rattle.framing.specs.declared.Line.{Line}
-use Rattle.framing.specs.declared.Phase.the-variants.{Inside}
-use Rattle.framing.proofs.Cut.{todo}
-use Rattle.framing.proofs.Invariant.{Pend, pend-opened, todo-nil}
+use Rattle.packets.specs.Packets.{ended, nonempty, stretches, classify, packets}
+use Rattle.unframing.specs.Line.{Closed, lineState}
+use Rattle.packets.specs.Theorems.{closedAs}
+use Rattle.unframing.specs.declared.Line.{Line}
+use Rattle.unframing.specs.declared.Phase.the-variants.{Inside}
+use Rattle.packets.proofs.Cut.{todo}
+use Rattle.packets.proofs.Invariant.{Pend, pend-opened, todo-nil}
 use Rattle.runs.specs.Run.{runOf}
 use Rattle.runs.proofs.Cut.{RunsTo, goes-whole, closes-at, run-fed}
 use Rattle.effects.specs.Core.{Core}

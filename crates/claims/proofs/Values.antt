@@ -4,7 +4,7 @@ use mathlib.Core.List.{List}
 use mathlib.Core.Bool.{Bool, true, false, cond, _&&_}
 use Prim.Native.Nat.{ℕ}
 use lib.Dec.{eqb}
-use Rattle.framing.specs.Packets.{Packet, dropped, read}
+use Rattle.packets.specs.Packets.{Packet, dropped, read}
 use Rattle.commands.specs.Numbers.{READ-REG}
 use Rattle.commands.specs.Header.{command}
 use Rattle.sessions.specs.Errors.{kind, flash-begin, flash-data, flash-end, memory-begin, memory-end, memory-data, sync, write-reg, spi-attach, unknown}
@@ -14,7 +14,7 @@ use Rattle.effects.specs.Handle.{Reply, nothing, replied, carriedOut, failed, h
 use Rattle.effects.proofs.Handled.{handle-cases}
 
 abbrev pub Valued : Reply → Type 0
-Valued nothing = Unit {0}
+Valued (nothing w) = Unit {0}
 Valued (replied c e v note) = (eqb c READ-REG && eqb e 0) ≡ false → v ≡ 0
 
 by-kind : (c : Core) (p : List ℕ) → eqb (command p) READ-REG ≡ false → effect (kind (command p)) c p .value ≡ 0
@@ -44,6 +44,6 @@ good-test false h = refl
 
 pub valued : (c : Core) (p : Packet) → Valued (handle c p .reply)
 unfolding handle carriedOut failed
-valued c dropped = tt
+valued c (dropped w) = tt
 valued c (read p) =
     handle-cases c p (λ x. Valued (x .reply)) (λ _ _ _. refl) (λ _ h. by-kind c p (good-test (eqb (command p) READ-REG) h))

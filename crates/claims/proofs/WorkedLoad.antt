@@ -10,10 +10,10 @@ use lib.Seq.{take-at, take-all, take-add, getD-at}
 use Rattle.lists.proofs.Tests.{passed-first}
 use Rattle.fields.specs.Words.{word}
 use Rattle.framing.specs.Frame.{longest, framed, escaped}
-use Rattle.framing.specs.Packets.{Packet, read, packets, stretches, ended, onto, nonempty}
+use Rattle.packets.specs.Packets.{Packet, read, packets, stretches, ended, onto, nonempty}
 use Rattle.begins.specs.Begin.{sector, beginOf, roundUp}
 use Rattle.commands.specs.Block.{payload}
-use Rattle.loader.specs.Refusals.{bufferChecks, flashLength, wordCount}
+use Rattle.loader_state.specs.Refusals.{bufferChecks, flashLength, wordCount}
 use Rattle.loader.specs.Step.{Told, refused, taken, dropped, answered}
 use Rattle.history.specs.Grammar.{begins, carries, packet, Fits}
 use Rattle.history.specs.Loaded.{image, Loaded}
@@ -57,7 +57,7 @@ closing-last : (xs : List ClosingCall) (n : ℕ) (t : Told) (flash : List ℕ) �
 unfolding closingAt closingCall
 closing-last xs n (refused k) flash e f = absurd (omega (arith, simp length-append at f))
 closing-last xs n taken flash e f = absurd (omega (arith, simp length-append at f))
-closing-last xs n (dropped k) flash e f = getD-at xs _ [] _ n e
+closing-last xs n (dropped k w) flash e f = getD-at xs _ [] _ n e
 closing-last xs n (answered k c s d sent note) flash e f = getD-at xs _ [] _ n e
 
 -- the line has 69 bytes, and without the last of them two packets

@@ -1,17 +1,17 @@
 -- "A packet of 1 to 4,120 bytes, framed and then unframed, comes back the same", up to the loader's step: fed call by call, it is that packet handled.
 use mathlib.Core.Path.{_≡_}
 use mathlib.Core.List.{List, [], _∷_, _++_, map}
-use mathlib.Core.Option.{some}
 use Prim.Native.Nat.{ℕ, _≤_}
 use lib.ListN.{length, take, replicate}
 use Rattle.lists.specs.Lay.{lay}
 use Rattle.framing.specs.Frame.{longest, framed, wrote, framing}
-use Rattle.framing.specs.Packets.{header}
-use Rattle.framing.specs.Line.{lineState}
-use Rattle.framing.specs.Theorems.{BetweenPackets}
-use Rattle.framing.specs.declared.Phase.the-variants.{Inside}
+use Rattle.unframing.specs.Reasons.{whole}
+use Rattle.packets.specs.Packets.{header}
+use Rattle.unframing.specs.Line.{lineState}
+use Rattle.packets.specs.Theorems.{BetweenPackets}
+use Rattle.unframing.specs.declared.Phase.the-variants.{Inside}
 use Rattle.effects.specs.Handle.{handle}
-use Rattle.loader.specs.Refusals.{refusal}
+use Rattle.loader_state.specs.Refusals.{refusal}
 use Rattle.loader.specs.Step.{Told, taken, afterPacket, bufferLengths}
 use Rattle.claims.specs.Calls.{Machine, Call, stepped, next, closingCalls}
 use Rattle.claims.specs.CallHistory.{coreAt, closingAs}
@@ -43,9 +43,9 @@ pub record Arrived (m : Machine) (p : List ℕ) (cs : List Call) (c : Call) : Ty
   -- the last call is the packet p handled: what it tells and answers, the record, flash and words are those of `handle`, and p stands at the front of the packet buffer
   pub last :
       stepped (after m cs) c
-      ≡ afterPacket (lineState Inside 0) (length p) (handle (coreAt m) (header (some p))) (lay (m .buffer) 0 p) (c .answer)
+      ≡ afterPacket (lineState Inside 0) (length p) (handle (coreAt m) (header (whole p))) (lay (m .buffer) 0 p) (c .answer)
   -- no other call closes a packet
-  pub one : closingCalls m (cs ++ c ∷ []) ≡ closingAs (length p) (handle (coreAt m) (header (some p))) ∷ []
+  pub one : closingCalls m (cs ++ c ∷ []) ≡ closingAs (length p) (handle (coreAt m) (header (whole p))) ∷ []
 
 -- From every machine between packets that refuses none of the calls: a packet of 1 to 4,120 bytes arrives with the calls whose bytes are its frame.
 abbrev pub PacketArrives : Type 0

@@ -3,7 +3,7 @@ use mathlib.Core.Path.{_≡_}
 use mathlib.Core.List.{List, []}
 use Prim.Native.Nat.{ℕ, _<_}
 use lib.ListN.{length, getD}
-use Rattle.framing.specs.Packets.{stretches, stored, packets}
+use Rattle.packets.specs.Packets.{stretches, stored, packets}
 use Rattle.effects.specs.Core.{Core}
 use Rattle.effects.specs.Handle.{Handled}
 use Rattle.loader.specs.Step.{toldOf, coreOf}

@@ -10,10 +10,11 @@ use Rattle.lists.specs.Lay.{lay}
 use Rattle.framing.specs.Frame.{framed}
 use Rattle.commands.specs.Numbers.{FLASH-END, READ-REG}
 use Rattle.answers.specs.Answer.{answerWith}
-use Rattle.loader.specs.Refusals.{bufferChecks}
+use Rattle.loader_state.specs.Refusals.{bufferChecks}
 use Rattle.loader.specs.Step as loader
-use Rattle.loader.specs.Step.{Step, Told, refused, taken, dropped, answered, freshLoader, bufferLengths}
-use Rattle.loader.specs.declared.Loader.{Loader}
+use Rattle.loader_state.specs.Record.{freshLoader}
+use Rattle.loader.specs.Step.{Step, Told, refused, taken, dropped, answered, bufferLengths}
+use Rattle.loader_state.specs.declared.Loader.{Loader}
 
 -- what a call leaves for the next: the record, packet buffer, flash and words
 pub record Machine : Type 0 where
@@ -61,7 +62,7 @@ pub record ClosingCall : Type 0 where
 unfoldable pub closingCall : Told → List ℕ → List ClosingCall
 closingCall (refused n) flash = []
 closingCall taken flash = []
-closingCall (dropped n) flash = record { told = dropped n; flash = flash } ∷ []
+closingCall (dropped n w) flash = record { told = dropped n w; flash = flash } ∷ []
 closingCall (answered n c s e sent order) flash = record { told = answered n c s e sent order; flash = flash } ∷ []
 
 -- the calls that close a packet, in order
@@ -77,7 +78,7 @@ closingAt hs i = getD hs i (record { told = taken; flash = [] })
 unfoldable pub endsWell : Told → Bool
 endsWell (refused n) = false
 endsWell taken = false
-endsWell (dropped n) = false
+endsWell (dropped n w) = false
 endsWell (answered n c s e sent order) = eqb c FLASH-END && (eqb s 0 && eqb e 0)
 
 -- the answer buffer where a command was answered: the answer with the command, status and error told, framed at its front, and its length told
@@ -92,7 +93,7 @@ pub record AnswerSent (command status error sent : ℕ) (before after : List ℕ
 unfoldable pub Sent : Told → List ℕ → List ℕ → Type 0
 Sent (refused n) before after = after ≡ before
 Sent taken before after = after ≡ before
-Sent (dropped n) before after = after ≡ before
+Sent (dropped n w) before after = after ≡ before
 Sent (answered n c s e sent order) before after = AnswerSent c s e sent before after
 
 -- what is claimed of one call: it takes its byte where refusals 1 to 4 let it pass, it sends what it tells, and every buffer keeps its length

@@ -5,7 +5,7 @@ use mathlib.Core.Bool.{true}
 use mathlib.Core.Logic.{_↔_}
 use Prim.Native.Nat.{ℕ, suc, _<_}
 use lib.ListN.{length, take}
-use Rattle.framing.specs.Packets.{Packet, packets}
+use Rattle.packets.specs.Packets.{Packet, packets}
 use Rattle.begins.specs.declared.Lengths.{Lengths}
 use Rattle.history.specs.Grammar.{Choice, Fits, packet, begins}
 use Rattle.history.specs.Loaded.{image, Loaded}

@@ -3,7 +3,7 @@ use mathlib.Core.Path.{_≡_}
 use mathlib.Core.List.{List, []}
 use Prim.Native.Nat.{ℕ}
 use lib.ListN.{length, take}
-use Rattle.framing.specs.Packets.{packets}
+use Rattle.packets.specs.Packets.{packets}
 use Rattle.claims.specs.Calls.{start}
 use Rattle.claims.specs.RunCalls.{RunCall, lineTaken, closingRuns, EachRunCall}
 use Rattle.claims.specs.Demand3.{Grammatical}

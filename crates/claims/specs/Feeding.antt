@@ -29,14 +29,14 @@ andThen f g = record { left = g .left; closings = f .closings ++ g .closings; un
 unfoldable pub ifClosing : Told → Step → List Step
 ifClosing (refused n) x = []
 ifClosing taken x = []
-ifClosing (dropped n) x = x ∷ []
+ifClosing (dropped n w) x = x ∷ []
 ifClosing (answered n c status e sent order) x = x ∷ []
 
 -- the byte of a call, where it is refused
 unfoldable pub ifRefused : Told → ℕ → List ℕ
 ifRefused (refused n) b = b ∷ []
 ifRefused taken b = []
-ifRefused (dropped n) b = []
+ifRefused (dropped n w) b = []
 ifRefused (answered n c status e sent order) b = []
 
 -- a call of `feed`

@@ -1,9 +1,11 @@
+pub mod ChangesNothing
 pub mod Calls
 pub mod CallHistory
 pub mod Demand3
 pub mod RunCalls
 pub mod RunHistory
 pub mod Demand3Runs
+pub mod Reasons
 pub mod Feeding
 pub mod RunsAreBytes
 pub mod HoweverCut

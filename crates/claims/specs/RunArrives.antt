@@ -1,17 +1,17 @@
 -- "A packet of 1 to 4,120 bytes, framed and then unframed, comes back the same", up to the loader's call with a run.
 use mathlib.Core.Path.{_≡_}
 use mathlib.Core.List.{List, _++_}
-use mathlib.Core.Option.{some}
 use Prim.Native.Nat.{ℕ, _≤_}
 use lib.ListN.{length, take}
 use Rattle.lists.specs.Lay.{lay}
 use Rattle.framing.specs.Frame.{longest, framed, wrote, framing}
-use Rattle.framing.specs.Packets.{header}
-use Rattle.framing.specs.Line.{lineState}
-use Rattle.framing.specs.Theorems.{BetweenPackets}
-use Rattle.framing.specs.declared.Phase.the-variants.{Inside}
+use Rattle.unframing.specs.Reasons.{whole}
+use Rattle.packets.specs.Packets.{header}
+use Rattle.unframing.specs.Line.{lineState}
+use Rattle.packets.specs.Theorems.{BetweenPackets}
+use Rattle.unframing.specs.declared.Phase.the-variants.{Inside}
 use Rattle.effects.specs.Handle.{handle}
-use Rattle.loader.specs.Refusals.{refusal}
+use Rattle.loader_state.specs.Refusals.{refusal}
 use Rattle.loader.specs.Step.{afterPacket, bufferLengths}
 use Rattle.claims.specs.Calls.{Machine}
 use Rattle.claims.specs.CallHistory.{coreAt}
@@ -24,7 +24,7 @@ TakenAs m p run answer =
     ran m (record { run = run; answer = answer })
     ≡ record {
       taken = length (framed p);
-      step = afterPacket (lineState Inside 0) (length p) (handle (coreAt m) (header (some p))) (lay (m .buffer) 0 p) answer;
+      step = afterPacket (lineState Inside 0) (length p) (handle (coreAt m) (header (whole p))) (lay (m .buffer) 0 p) answer;
     }
 
 -- From every machine between packets, of a call that is not refused.

@@ -7,8 +7,8 @@ use Prim.Native.Nat.{ℕ, _≤_, _<_}
 use lib.Dec.{eqb}
 use lib.ListN.{length, take}
 use Rattle.lists.specs.Checks.{first}
-use Rattle.framing.specs.Packets.{packets}
-use Rattle.loader.specs.Refusals.{bufferChecks}
+use Rattle.packets.specs.Packets.{packets}
+use Rattle.loader_state.specs.Refusals.{bufferChecks}
 use Rattle.loader.specs.Step.{refused, bufferLengths}
 use Rattle.loader.specs.RunStep.{RunStep, runStep}
 use Rattle.claims.specs.Calls.{Machine, ClosingCall, closingCall, Sent}

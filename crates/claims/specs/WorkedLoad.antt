@@ -7,7 +7,7 @@ use lib.ListN.{length, replicate}
 use Rattle.framing.specs.Frame.{longest}
 use Rattle.begins.specs.Begin.{sector}
 use Rattle.answers.specs.Reply.{longestAnswer}
-use Rattle.loader.specs.Refusals.{wordCount}
+use Rattle.loader_state.specs.Refusals.{wordCount}
 use Rattle.history.specs.Witness.{workedLine}
 use Rattle.claims.specs.Calls.{Machine, Call, start, stepped, endsWell}
 use Rattle.claims.specs.Arrives.{bytes, after}

@@ -6,7 +6,7 @@ use Prim.Native.Nat.{ℕ}
 use borrow.Author.Tests.{eqb-true, eqb-false, eq-eqb, ne-eqb}
 use lib.Dec.{eqb}
 use Rattle.lists.proofs.Tests.{Passed, passed-first, first-passed}
-use Rattle.framing.specs.Packets.{read}
+use Rattle.packets.specs.Packets.{read}
 use Rattle.commands.specs.Header.{command}
 use Rattle.sessions.specs.Session.{sessionGood, ifSound}
 use Rattle.sessions.specs.Errors.{kind, checks, errorOf}

@@ -4,7 +4,8 @@ use mathlib.Core.List.{List}
 use mathlib.Core.Bool.{cond}
 use Prim.Native.Nat.{ℕ}
 use lib.Dec.{eqb}
-use Rattle.framing.specs.Packets.{Packet, dropped, read}
+use Rattle.packets.specs.Packets.{Packet, dropped, read}
+use Rattle.unframing.specs.declared.Reason.{Reason}
 use Rattle.commands.specs.Header.{command}
 use Rattle.sessions.specs.Errors.{kind, errorOf}
 use Rattle.effects.specs.Core.{Core, lengths, soundOnly}
@@ -12,9 +13,9 @@ use Rattle.effects.specs.Notes.{Order, no-order, noted}
 use Rattle.effects.specs.Effects.{effect}
 use Rattle.effects.specs.declared.Done.{Done}
 
--- what a packet is answered with: nothing, or its command with an error, a value, and what the caller is told
+-- what a packet is answered with: nothing, and why it was dropped; or its command with an error, a value, and what the caller is told
 pub data Reply : Type 0 where
-  nothing : Reply
+  nothing : Reason → Reply
   replied : (command error value : ℕ) → Order → Reply
 
 pub record Handled : Type 0 where
@@ -34,7 +35,7 @@ unfoldable pub failed : Core → List ℕ → ℕ → Handled
 failed c p error = record { reply = replied (command p) error 0 no-order; core = c }
 
 unfoldable pub handle : Core → Packet → Handled
-handle c dropped = record { reply = nothing; core = c }
+handle c (dropped w) = record { reply = nothing w; core = c }
 handle c (read p) =
     cond (eqb (errorOf (lengths c) (c .session) p) 0)
     (carriedOut c p)

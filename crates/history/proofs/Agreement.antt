@@ -9,7 +9,8 @@ use borrow.Author.Tests.{leb-true}
 use lib.ListN.{length, take, length-append, length-take}
 use lib.Seq.{take-nil, getD-take, length-take-le}
 use Rattle.lists.proofs.Tests.{absurd-test, both}
-use Rattle.framing.specs.Packets.{Packet, dropped, read}
+use Rattle.packets.specs.Packets.{Packet, dropped, read}
+use Rattle.unframing.specs.declared.Reason.the-variants.{TooShort}
 use Rattle.begins.specs.Begin.{beginOf, flashRule}
 use Rattle.begins.specs.declared.Lengths.{Lengths}
 use Rattle.begins.specs.declared.Begin.{Begin}
@@ -32,12 +33,12 @@ use Rattle.history.proofs.Lengths.{keeps}
 
 begin-ruled : (l : Lengths) (p : Packet) → flashBegin l p ≡ true → Ruled l (begins p)
 unfolding flashBegin begins
-begin-ruled l dropped h = absurd-test h
+begin-ruled l (dropped w) h = absurd-test h
 begin-ruled l (read p) h = ruled l (beginOf p) (flash-begin-parts l p h .is-ruled)
 
 block-length : (g : Begin) (k : ℕ) (p : Packet) → goodBlock g k p ≡ true → length (carries p) ≡ g .block
 unfolding goodBlock carries
-block-length g k dropped h = absurd-test h
+block-length g k (dropped w) h = absurd-test h
 block-length g k (read p) h = let b = block-parts g k p h in payload-length p (g .block) (b .is-shaped) (b .sized-block)
 
 image-more : (ps : List Packet) (js : List ℕ) (i : ℕ) → image ps (js ++ i ∷ []) ≡ image ps js ++ carries (packet ps i)
@@ -70,7 +71,7 @@ history-length c (p ∷ ps) = ap suc (history-length (handle c p .core) ps)
 state-take : (l : Lengths) (ps : List Packet) (n j : ℕ) → j ≤ n → stateAt l (take n ps) j ≡ stateAt l ps j
 unfolding stateAt packet
 state-take l ps n zero h = refl
-state-take l ps n (suc j) h = rw (state-take l ps n j (omega arith), getD-take n ps j dropped h)
+state-take l ps n (suc j) h = rw (state-take l ps n j (omega arith), getD-take n ps j (dropped TooShort) h)
 
 state-whole : (l : Lengths) (ps : List Packet) (i : ℕ) → i < length ps
     → stateAt l (take (suc i) ps) (length (take (suc i) ps)) ≡ stateAt l ps (suc i)

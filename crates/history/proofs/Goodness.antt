@@ -8,7 +8,7 @@ use borrow.Author.Tests.{eqb-true, eq-eqb, ne-eqb}
 use lib.Dec.{eqb}
 use Rattle.lists.proofs.Tests.{absurd-test, both}
 use Rattle.fields.specs.Words.{word}
-use Rattle.framing.specs.Packets.{Packet, dropped, read}
+use Rattle.packets.specs.Packets.{Packet, dropped, read}
 use Rattle.fields.specs.Places.{FIRST-WORD, SECOND-WORD}
 use Rattle.commands.specs.Numbers.{FLASH-BEGIN, FLASH-DATA, FLASH-END, MEM-BEGIN}
 use Rattle.commands.specs.Header.{command, shaped, dataShaped}
@@ -114,10 +114,10 @@ no-begin l p e a b = rw (other-number FLASH-BEGIN _ e a, other-number MEM-BEGIN 
 
 pub block-no-begin : (l : Lengths) (g : Begin) (k : ℕ) (p : Packet) → goodBlock g k p ≡ true → anyBegin l p ≡ false
 unfolding goodBlock
-block-no-begin l g k dropped h = absurd-test h
+block-no-begin l g k (dropped w) h = absurd-test h
 block-no-begin l g k (read p) h = no-begin l p (block-parts g k p h .numbered) (λ e. omega arith) (λ e. omega arith)
 
 pub end-no-begin : (l : Lengths) (p : Packet) → flashEnd p ≡ true → anyBegin l p ≡ false
 unfolding flashEnd
-end-no-begin l dropped h = absurd-test h
+end-no-begin l (dropped w) h = absurd-test h
 end-no-begin l (read p) h = no-begin l p (end-parts p h .numbered) (λ e. omega arith) (λ e. omega arith)

@@ -9,7 +9,7 @@ use lib.ListN.{length, length-append, length-take, length-replicate, length-set}
 use Rattle.lists.proofs.Laws.{length-lay}
 use Rattle.lists.proofs.Tests.{both, Passed}
 use Rattle.fields.specs.Pins.{attachGood}
-use Rattle.framing.specs.Packets.{Packet, dropped, read}
+use Rattle.packets.specs.Packets.{Packet, dropped, read}
 use Rattle.begins.specs.Begin.{beginOf, flashRule, memoryRule, reached}
 use Rattle.begins.specs.declared.Begin.{Begin}
 use Rattle.begins.specs.declared.Lengths.{Lengths}
@@ -91,7 +91,7 @@ module _ (c : Core) (p : List ℕ) (good : sessionGood (lengths c) (c .session) 
 
 pub keeps : (c : Core) (p : Packet) → sessionGood (lengths c) (c .session) ≡ true → Keeps c (handle c p .core)
 unfolding handle carriedOut failed
-keeps c dropped good = record { same-lengths = refl; session = good; attach = λ a. a }
+keeps c (dropped w) good = record { same-lengths = refl; session = good; attach = λ a. a }
 keeps c (read p) good =
     handle-cases c p (λ x. Keeps c (x .core)) (λ _ _. record { same-lengths = refl; session = good; attach = λ a. a })
     (effect-keeps c p good (kind (command p)))

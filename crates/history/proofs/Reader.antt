@@ -9,7 +9,7 @@ use borrow.Author.Tests.{ltb-true, ltb-false, lt-ltb, le-ltb}
 use lib.Dec.{ltb}
 use lib.ListN.{length}
 use Rattle.lists.proofs.Tests.{neither, not-or, or-not}
-use Rattle.framing.specs.Packets.{Packet}
+use Rattle.packets.specs.Packets.{Packet}
 use Rattle.begins.specs.declared.Lengths.{Lengths}
 use Rattle.begins.specs.declared.Begin.{Begin}
 use Rattle.history.specs.Grammar.{flashBegin, memoryBegin, goodBlock, flashEnd, begins, anyBegin, packet, fillerBlock, fillerEnd, Between, Choice, Chain, block, end, Fits}

@@ -6,7 +6,7 @@ use Prim.Native.Nat.{ℕ, _+_, _<_}
 use borrow.Author.Tests.{eqb-true}
 use lib.Dec.{eqb}
 use Rattle.lists.proofs.Tests.{absurd-test, both, neither, Passed}
-use Rattle.framing.specs.Packets.{Packet, dropped, read}
+use Rattle.packets.specs.Packets.{Packet, dropped, read}
 use Rattle.commands.specs.Numbers.{FLASH-DATA, FLASH-END}
 use Rattle.commands.specs.Header.{command, shaped}
 use Rattle.commands.specs.Parameters.{flashEndRule}
@@ -36,7 +36,7 @@ module _ (c : Core) where
   pub began : (p : Packet) → flashBegin (lengths c) p ≡ true
       → (handle c p .core .session ≡ Flash (begins p) 0) × (handle c p .core .flash ≡ c .flash)
   unfolding flashBegin begins kind checks plainChecks carriedOut effect
-  began dropped h = absurd-test h
+  began (dropped w) h = absurd-test h
   began (read p) h =
       let b = flash-begin-parts (lengths c) p h in
       rw (good-handled c p (rw (b .numbered) (b .is-shaped, (b .is-ruled, tt)))) (rw (b .numbered) (refl, refl))
@@ -44,7 +44,7 @@ module _ (c : Core) where
   -- a good memory BEGIN leaves no flash session
   pub memory-began : (p : Packet) → memoryBegin (lengths c) p ≡ true → flashOpen (handle c p .core .session) ≡ false
   unfolding memoryBegin kind checks plainChecks carriedOut effect flashOpen
-  memory-began dropped h = absurd-test h
+  memory-began (dropped w) h = absurd-test h
   memory-began (read p) h =
       let b = memory-begin-parts (lengths c) p h in
       rw (good-handled c p (rw (b .numbered) (b .is-shaped, (b .is-ruled, tt))), b .numbered)
@@ -53,7 +53,7 @@ module _ (c : Core) where
   pub accepts : (g : Begin) (k : ℕ) (p : Packet) → c .session ≡ Flash g k → k < g .count → goodBlock g k p ≡ true
       → (handle c p .core .session ≡ Flash g (k + 1)) × (handle c p .core .flash ≡ flashBlock g k (carries p) (c .flash))
   unfolding goodBlock carries kind checks flashOpen announced accepted carriedOut effect advanced
-  accepts g k dropped e lt h = absurd-test h
+  accepts g k (dropped w) e lt h = absurd-test h
   accepts g k (read p) e lt h =
       let b = block-parts g k p h in
       let d : DataPassed true (Flash g k) p =
@@ -73,7 +73,7 @@ module _ (c : Core) where
   pub ends : (g : Begin) (k : ℕ) (p : Packet) → c .session ≡ Flash g k → k ≡ g .count → flashEnd p ≡ true
       → (endSucceeds (handle c p .reply) ≡ true) × (handle c p .core .session ≡ Closed) × (handle c p .core .flash ≡ c .flash)
   unfolding flashEnd kind checks flashOpen announced accepted carriedOut effect endSucceeds
-  ends g k dropped e m h = absurd-test h
+  ends g k (dropped w) e m h = absurd-test h
   ends g k (read p) e m h =
       let b = end-parts p h in
       let d : EndPassed (shaped 4 p) true (flashEndRule p) (Flash g k) =
@@ -108,7 +108,7 @@ module _ (c : Core) where
   -- and only such an END is answered with success
   pub ended : (p : Packet) → endSucceeds (handle c p .reply) ≡ true → Ended p
   unfolding handle carriedOut failed endSucceeds
-  ended dropped h = absurd-test h
+  ended (dropped w) h = absurd-test h
   ended (read p) h =
       handle-cases c p (λ x. endSucceeds (x .reply) ≡ true → Ended (read p))
       (λ e ne h. absurd (ne (success (command p) e h .1)))
@@ -160,7 +160,7 @@ pub kept : (c : Core) (g : Begin) (k : ℕ) (p : Packet) → c .session ≡ Flas
     → (k < g .count → goodBlock g k p ≡ false) → (k ≡ g .count → flashEnd p ≡ false)
     → (handle c p .core .session ≡ Flash g k) × (handle c p .core .flash ≡ c .flash)
 unfolding handle carriedOut failed
-kept c g k dropped e nb ng ne = (e, refl)
+kept c g k (dropped w) e nb ng ne = (e, refl)
 kept c g k (read p) e nb ng ne = handle-cases c p (λ x. (x .core .session ≡ Flash g k) × (x .core .flash ≡ c .flash)) (λ _ _. (e, refl))
     (λ t. kept-kind c g k p (kind (command p)) e (is (command p)) nb ng ne (rw e at t))
 
@@ -191,6 +191,6 @@ unopened-kind c p unknown is-unknown o nb t = o
 pub unopened : (c : Core) (p : Packet) → flashOpen (c .session) ≡ false → flashBegin (lengths c) p ≡ false
     → flashOpen (handle c p .core .session) ≡ false
 unfolding handle carriedOut failed
-unopened c dropped o nb = o
+unopened c (dropped w) o nb = o
 unopened c (read p) o nb = handle-cases c p (λ x. flashOpen (x .core .session) ≡ false) (λ _ _. o)
     (λ t. unopened-kind c p (kind (command p)) (is (command p)) o nb t)

@@ -9,7 +9,7 @@ use Rattle.lists.specs.Bytes.{allAre}
 use Rattle.fields.specs.Words.{word, half}
 use Rattle.fields.specs.Checksum.{xored, checksum}
 use Rattle.framing.specs.Frame.{framed, escaped}
-use Rattle.framing.specs.Packets.{Packet, read, packets, stretches, ended, onto, nonempty, classify, contents, bounded, unescape, escape, push, header}
+use Rattle.packets.specs.Packets.{Packet, read, packets, stretches, ended, onto, nonempty, classify, undamaged, undamagedEscape, damage, damageEscape, unlessDamaged, contents, header}
 use Rattle.begins.specs.Begin.{sector, beginOf, roundUp, counted, flashRule}
 use Rattle.begins.specs.declared.Lengths.{Lengths}
 use Rattle.commands.specs.Header.{command, sized, shaped, dataShaped}
@@ -20,7 +20,7 @@ use Rattle.history.proofs.Reader.{none-yet}
 use Rattle.history.specs.Witness.{workedBegin, workedBlock, workedEnd, workedLine, WorkedFits}
 
 pub worked-packets : packets workedLine ≡ read workedBegin ∷ read workedBlock ∷ read workedEnd ∷ []
-unfolding workedBegin workedBlock workedEnd workedLine framed escaped packets stretches ended onto nonempty classify contents bounded unescape escape push header
+unfolding workedBegin workedBlock workedEnd workedLine framed escaped packets stretches ended onto nonempty classify undamaged undamagedEscape damage damageEscape unlessDamaged contents header
 worked-packets = refl
 
 worked-begin : (l : Lengths) → sector ≤ l .flash → flashBegin l (read workedBegin) ≡ true

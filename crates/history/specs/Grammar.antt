@@ -6,7 +6,8 @@ use Prim.Native.Nat.{ℕ, suc, _+_, _<_}
 use lib.Dec.{eqb}
 use lib.ListN.{length, getD}
 use Rattle.fields.specs.Words.{word}
-use Rattle.framing.specs.Packets.{Packet, dropped, read}
+use Rattle.packets.specs.Packets.{Packet, dropped, read}
+use Rattle.unframing.specs.declared.Reason.the-variants.{TooShort}
 use Rattle.fields.specs.Places.{FIRST-WORD, SECOND-WORD}
 use Rattle.commands.specs.Numbers.{FLASH-BEGIN, FLASH-DATA, FLASH-END, MEM-BEGIN}
 use Rattle.commands.specs.Header.{FOUR-WORDS, command, shaped, dataShaped}
@@ -18,11 +19,11 @@ use Rattle.begins.specs.declared.Lengths.{Lengths}
 
 -- "A BEGIN is good when it is read and neither 0xC0 nor 0xC5 applies."
 unfoldable pub flashBegin : Lengths → Packet → Bool
-flashBegin l dropped = false
+flashBegin l (dropped w) = false
 flashBegin l (read p) = eqb (command p) FLASH-BEGIN && (shaped FOUR-WORDS p && flashRule l (beginOf p))
 
 unfoldable pub memoryBegin : Lengths → Packet → Bool
-memoryBegin l dropped = false
+memoryBegin l (dropped w) = false
 memoryBegin l (read p) = eqb (command p) MEM-BEGIN && (shaped FOUR-WORDS p && memoryRule l (beginOf p))
 
 unfoldable pub anyBegin : Lengths → Packet → Bool
@@ -30,7 +31,7 @@ anyBegin l p = flashBegin l p || memoryBegin l p
 
 -- "A block k is good when it is a read FLASH_DATA past the 0xC0 check with the BEGIN's b, sequence k, third and fourth words 0, the right checksum, and 0xFF past S."
 unfoldable pub goodBlock : Begin → ℕ → Packet → Bool
-goodBlock g k dropped = false
+goodBlock g k (dropped w) = false
 goodBlock g k (read p) =
     eqb (command p) FLASH-DATA
     && (dataShaped p
@@ -39,21 +40,21 @@ goodBlock g k (read p) =
 
 -- "a read FLASH_END past the 0xC0 check with 0 or 1, which is what END means"
 unfoldable pub flashEnd : Packet → Bool
-flashEnd dropped = false
+flashEnd (dropped w) = false
 flashEnd (read p) = eqb (command p) FLASH-END && (shaped 4 p && flashEndRule p)
 
 -- what a packet announces as a BEGIN, and what data it carries as a block
 unfoldable pub begins : Packet → Begin
-begins dropped = beginOf []
+begins (dropped w) = beginOf []
 begins (read p) = beginOf p
 
 unfoldable pub carries : Packet → List ℕ
-carries dropped = []
+carries (dropped w) = []
 carries (read p) = payload p
 
--- the packet at a place
+-- the packet at a place; past the last one, as one of no bytes, which is no BEGIN, no block and no END
 unfoldable pub packet : List Packet → ℕ → Packet
-packet ps i = getD ps i dropped
+packet ps i = getD ps i (dropped TooShort)
 
 -- "A choice names, by their places among the packets, a good flash BEGIN, its good blocks 0 to n less 1, and END, in this order"
 pub record Choice : Type 0 where

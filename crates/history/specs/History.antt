@@ -4,8 +4,9 @@ use mathlib.Core.Bool.{Bool, false, _&&_}
 use Prim.Native.Nat.{ℕ}
 use lib.Dec.{eqb}
 use lib.ListN.{getD}
-use Rattle.framing.specs.Packets.{Packet}
+use Rattle.packets.specs.Packets.{Packet}
 use Rattle.commands.specs.Numbers.{FLASH-END}
+use Rattle.unframing.specs.declared.Reason.the-variants.{TooShort}
 use Rattle.sessions.specs.declared.Session.the-variants.{Closed}
 use Rattle.effects.specs.Core.{Core}
 use Rattle.effects.specs.Handle.{Reply, nothing, replied, Handled, handle}
@@ -14,12 +15,12 @@ unfoldable pub history : Core → List Packet → List Handled
 history c [] = []
 history c (p ∷ ps) = handle c p ∷ history (handle c p .core) ps
 
--- the handled packet at a place
+-- the handled packet at a place; past the last one, as one of no bytes
 unfoldable pub handledAt : List Handled → ℕ → Handled
 handledAt hs i =
-    getD hs i (record { reply = nothing; core = record { session = Closed; attach = 0; flash = []; words = [] } })
+    getD hs i (record { reply = nothing TooShort; core = record { session = Closed; attach = 0; flash = []; words = [] } })
 
 -- a packet is answered as FLASH_END, with success
 unfoldable pub endSucceeds : Reply → Bool
-endSucceeds nothing = false
+endSucceeds (nothing w) = false
 endSucceeds (replied c e v order) = eqb c FLASH-END && eqb e 0

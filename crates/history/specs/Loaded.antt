@@ -3,7 +3,7 @@ use mathlib.Core.Path.{_≡_}
 use mathlib.Core.List.{List, [], _∷_, _++_}
 use Prim.Native.Nat.{ℕ, _+_, _-_}
 use lib.ListN.{take, drop, replicate}
-use Rattle.framing.specs.Packets.{Packet}
+use Rattle.packets.specs.Packets.{Packet}
 use Rattle.begins.specs.Begin.{roundUp}
 use Rattle.begins.specs.declared.Begin.{Begin}
 use Rattle.history.specs.Grammar.{packet, carries}

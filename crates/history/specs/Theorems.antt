@@ -6,7 +6,7 @@ use mathlib.Core.Logic.{_↔_}
 use Prim.Native.Nat.{ℕ, suc, _<_}
 use lib.ListN.{length, take}
 use Rattle.fields.specs.Pins.{attachGood}
-use Rattle.framing.specs.Packets.{Packet}
+use Rattle.packets.specs.Packets.{Packet}
 use Rattle.begins.specs.declared.Lengths.{Lengths}
 use Rattle.sessions.specs.Session.{flashOpen, sessionGood}
 use Rattle.effects.specs.Core.{Core, lengths}

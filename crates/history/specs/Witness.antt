@@ -2,7 +2,7 @@
 use mathlib.Core.List.{List, [], _∷_, _++_}
 use Prim.Native.Nat.{ℕ, _≤_}
 use Rattle.framing.specs.Frame.{framed}
-use Rattle.framing.specs.Packets.{packets}
+use Rattle.packets.specs.Packets.{packets}
 use Rattle.begins.specs.Begin.{sector}
 use Rattle.begins.specs.declared.Lengths.{Lengths}
 use Rattle.history.specs.Grammar.{Choice, Fits}

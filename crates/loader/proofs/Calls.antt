@@ -2,22 +2,25 @@
 use Prim.Native.Nat.{ℕ, _≤_}
 use mathlib.Core.Path.{_≡_, refl, sym, ap, _∙_}
 use mathlib.Core.List.{List, [], _∷_}
-use mathlib.Core.Bool.{Bool, true, false, cond, _&&_}
+use mathlib.Core.Bool.{Bool, true, false, cond}
 use mathlib.Core.Option.{Option, none, some}
 use native.Mathlib.Omega.{arith}
 use borrow.Author.Tests.{eq-eqb, ne-eqb}
 use lib.Dec.{leb, eqb}
 use lib.ListN.{length, take, getD}
 use lib.Seq.{length-take-le}
-use Rattle.framing.specs.Packets.{Packet, dropped, read, header}
-use Rattle.framing.specs.Line.{Closed, Step as ByteStep, stepOf, closedBy}
-use Rattle.framing.specs.declared.Closing.the-variants.{Open, Whole, Broken}
+use Rattle.unframing.specs.Reasons.{whole}
+use Rattle.packets.specs.Packets.{Packet, dropped, read, header}
+use Rattle.unframing.specs.Line.{Closed, Step as ByteStep, stepOf, closedBy}
+use Rattle.unframing.specs.declared.Closing.the-variants.{Open, Whole, Broken}
+use Rattle.unframing.specs.declared.Reason.{Reason}
+use Rattle.unframing.specs.declared.Reason.the-variants.{TooShort, WrongDirection}
 use Rattle.runs.specs.Run.{still, stopped, ahead, stopOrGo, runOf, Runs}
 use Rattle.runs.specs.declared.Ran.{Ran}
 use Rattle.runs.proofs.Kept.{run-within}
 use Rattle.commands.specs.Header.{command}
 use Rattle.sessions.specs.Session.{sessionGood}
-use Rattle.loader.specs.Refusals.{refusal}
+use Rattle.loader_state.specs.Refusals.{refusal}
 use Rattle.answers.specs.Answer.{answerBytes}
 use Rattle.answers.specs.Reply.{longestAnswer, Replies}
 use Rattle.answers.proofs.Replies.{sent-whole, laid-whole}
@@ -27,48 +30,49 @@ use Rattle.effects.proofs.Handled.{obeyed-handled}
 use Rattle.loader.specs.RunStep.{runStep, taking, refusingRun, FeedsRun}
 use Rattle.loader.specs.Step.{told, Feeds, step, refusing, afterByte, afterPacket, coreOf, bufferLengths, answerBuffer, toldOf}
 use Rattle.loader.specs.Parts.{classified, Acts}
-use Rattle.loader.specs.declared.Loader.{Loader}
+use Rattle.loader_state.specs.declared.Loader.{Loader}
 use Rattle.loader.specs.declared.Answer.the-variants.{Refused, Taken, Dropped, Answered}
 use Rattle.loader.specs.declared.Fed.{Fed}
 use Rattle.loader.specs.declared.RunFed.{RunFed}
 use Rattle.effects.specs.declared.Done.{Done}
-use Rattle.loader.proofs.Theorems.{judged-once}
+use Rattle.loader.proofs.Judged.{judged-once}
 use Rattle.loader.specs.declared.Packet.the-variants as code
 use Rattle.loader.specs.declared.Packet as code-packet
 
 -- ---- a whole packet
 
 -- a whole packet is dropped, or read as itself
-headed : (p : List ℕ) (t : Bool) (n : ℕ) → classified (cond t (read p) dropped) ≡ code.Read n
-    → (cond t (read p) dropped ≡ read p) × (n ≡ command p)
-headed p true n e = (refl, cc)
-headed p false n e = let z : _≡_ {A = ℕ} 0 1 = cc in absurd (omega arith)
+headed : (p : List ℕ) (x y : Bool) (n : ℕ) → classified (cond x (cond y (read p) (dropped WrongDirection)) (dropped TooShort)) ≡ code.Read n
+    → (cond x (cond y (read p) (dropped WrongDirection)) (dropped TooShort) ≡ read p) × (n ≡ command p)
+headed p true true n e = (refl, cc)
+headed p true false n e = let z : _≡_ {A = ℕ} 0 1 = cc in absurd (omega arith)
+headed p false y n e = let z : _≡_ {A = ℕ} 0 1 = cc in absurd (omega arith)
 
-unheaded : (p : List ℕ) (t : Bool) → classified (cond t (read p) dropped) ≡ code.Dropped → cond t (read p) dropped ≡ dropped
-unheaded p true e = let z : _≡_ {A = ℕ} 0 1 = cc in absurd (omega arith)
-unheaded p false e = refl
+unheaded : (q : Packet) (w : Reason) → classified q ≡ code.Dropped w → q ≡ dropped w
+unheaded (dropped v) w e = cc
+unheaded (read p) w e = let z : _≡_ {A = ℕ} 0 1 = cc in absurd (omega arith)
 
 module _
-    (loader : Loader) (p buffer flash words : List ℕ) (x : code-packet.Packet) (is : x ≡ classified (header (some p))) where
+    (loader : Loader) (p buffer flash words : List ℕ) (x : code-packet.Packet) (is : x ≡ classified (header (whole p))) where
   pub acts-dropped :
-      x ≡ code.Dropped
-      → Acts (handle (coreOf loader flash words) (header (some p))) loader (length p) buffer
-      (record { answer = Dropped (length p); loader = loader }) buffer flash words
-  unfolding handle toldOf answerBuffer header
-  acts-dropped e =
-      rw (unheaded p (leb 8 (length p) && eqb (getD p 0 0) 0) (sym is ∙ e))
+      (w : Reason) → x ≡ code.Dropped w
+      → Acts (handle (coreOf loader flash words) (header (whole p))) loader (length p) buffer
+      (record { answer = Dropped (length p) w; loader = loader }) buffer flash words
+  unfolding handle toldOf answerBuffer
+  acts-dropped w e =
+      rw (unheaded (header (whole p)) w (sym is ∙ e))
       (record { says = refl; hands-back = refl; answer-buffer = refl; in-flash = refl; in-words = refl })
 
-  packet-read : (n : ℕ) → x ≡ code.Read n → (header (some p) ≡ read p) × (n ≡ command p)
+  packet-read : (n : ℕ) → x ≡ code.Read n → (header (whole p) ≡ read p) × (n ≡ command p)
   unfolding header
-  packet-read n e = headed p (leb 8 (length p) && eqb (getD p 0 0) 0) n (sym is ∙ e)
+  packet-read n e = headed p (leb 8 (length p)) (eqb (getD p 0 0) 0) n (sym is ∙ e)
 
   pub acts-read :
       (n sent : ℕ) (done : Done) (after flash′ words′ : List ℕ) → x ≡ code.Read n → longestAnswer ≤ length buffer
       → sessionGood (lengths (coreOf loader flash words)) (loader .session) ≡ true
       → Does (obeyed (coreOf loader flash words) p) (command p) done flash′ words′
       → Replies (answerBytes n (done .error) (done .value)) buffer sent after
-      → Acts (handle (coreOf loader flash words) (header (some p))) loader (length p) buffer
+      → Acts (handle (coreOf loader flash words) (header (whole p))) loader (length p) buffer
       (record {
         answer = Answered (length p) n (done .error) sent (done .note);
         loader = record { line = loader .line; session = done .session; attach = done .attach };
@@ -141,23 +145,23 @@ module _
         going-on _ _ _ _ (rw e (feeds-itself _ _ _ _ _))
 
     pub packet-broken :
-        (m : ℕ) → s .closing ≡ Broken m
-        → FeedsRun (runStep loader run packet answer flash words) (record { taken = s .taken; answer = Dropped m; loader = next })
+        (m : ℕ) (w : Reason) → s .closing ≡ Broken m w
+        → FeedsRun (runStep loader run packet answer flash words) (record { taken = s .taken; answer = Dropped m w; loader = next })
         packet′ answer flash words
     unfolding afterByte afterPacket handle header toldOf answerBuffer
-    packet-broken m e =
+    packet-broken m w e =
         going-on _ _ _ _ (rw e (feeds-itself _ _ _ _ _))
 
     -- a whole packet's bytes are in the buffer
     pub whole-fits : (m : ℕ) → s .closing ≡ Whole m → length packet′ ≡ length packet → m ≤ length packet′
     whole-fits m e long =
-        let d : Closed = record { stored = m; contents = some (take m packet′) } in
+        let d : Closed = record { stored = m; contents = whole (take m packet′) } in
         let h = run-within run (loader .line) packet d (take m packet′) (sym (ran .closed) ∙ ap (λ c. closedBy c packet′) e) refl in
         omega arith
 
     pub packet-acted :
         (m : ℕ) (r : Fed) (a f w : List ℕ) → s .closing ≡ Whole m → length packet′ ≡ length packet
-        → Acts (handle (coreOf next flash words) (header (some (take m packet′)))) next (length (take m packet′)) answer r a f w
+        → Acts (handle (coreOf next flash words) (header (whole (take m packet′)))) next (length (take m packet′)) answer r a f w
         → FeedsRun (runStep loader run packet answer flash words) (record { taken = s .taken; answer = r .answer; loader = r .loader })
         packet′ a f w
     unfolding afterByte afterPacket

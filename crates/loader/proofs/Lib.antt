@@ -1,4 +1,3 @@
-pub mod LetPass
-pub mod Theorems
+pub mod Judged
 pub mod Calls
 pub mod Runs

@@ -7,18 +7,18 @@ use mathlib.Core.Option.{Option, none, some}
 use native.Mathlib.Omega.{arith}
 use lib.Dec.{eqb}
 use lib.ListN.{length}
-use Rattle.framing.specs.Line.{Closed, Step as ByteStep, stepOf}
-use Rattle.framing.specs.declared.Line.{Line}
-use Rattle.framing.proofs.Kept.{step-keeps}
+use Rattle.unframing.specs.Line.{Closed, Step as ByteStep, stepOf}
+use Rattle.unframing.specs.declared.Line.{Line}
+use Rattle.unframing.proofs.Kept.{step-keeps}
 use Rattle.runs.specs.Run.{runOf}
 use Rattle.runs.proofs.Passing.{goes, stops}
 use Rattle.runs.proofs.Theorems.{takes-most, takes-some}
-use Rattle.loader.specs.Refusals.{refusal}
+use Rattle.loader_state.specs.Refusals.{refusal}
 use Rattle.loader.specs.Step.{refused, taken, keeping, refusing, afterByte, bufferLengths, step}
 use Rattle.loader.specs.RunStep.{RunStep, runStep, taking, refusingRun}
-use Rattle.loader.specs.declared.Loader.{Loader}
-use Rattle.loader.proofs.LetPass.{let-pass, no-refusal}
-use Rattle.loader.proofs.Theorems.{judged-once, run-passed}
+use Rattle.loader_state.specs.declared.Loader.{Loader}
+use Rattle.loader_state.proofs.LetPass.{let-pass, no-refusal}
+use Rattle.loader.proofs.Judged.{judged-once, run-passed}
 
 -- so many bytes of the run were taken before
 abbrev pub later : ℕ → RunStep → RunStep

@@ -5,9 +5,9 @@ use mathlib.Core.List.{List}
 use mathlib.Core.Bool.{cond}
 use lib.Dec.{eqb}
 use Rattle.runs.specs.Run.{Run, runOf}
-use Rattle.loader.specs.Refusals.{refusal}
+use Rattle.loader_state.specs.Refusals.{refusal}
 use Rattle.loader.specs.Step.{Step, told, refusing, afterByte, bufferLengths}
-use Rattle.loader.specs.declared.Loader.{Loader}
+use Rattle.loader_state.specs.declared.Loader.{Loader}
 use Rattle.loader.specs.declared.RunFed.{RunFed}
 
 -- how many bytes of the run are taken, and what the call comes to besides, as a call with one byte does

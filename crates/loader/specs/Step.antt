@@ -8,37 +8,32 @@ use lib.ListN.{length}
 use lib.Dec.{eqb}
 use Rattle.lists.specs.Lay.{lay}
 use Rattle.framing.specs.Frame.{framed}
-use Rattle.framing.specs.Packets.{header}
-use Rattle.framing.specs.Line.{stepOf, Closed as ClosedPacket}
-use Rattle.framing.specs.Run.{fresh}
-use Rattle.framing.specs.declared.Line.{Line}
-use Rattle.loader.specs.Refusals.{BufferLengths, refusal}
+use Rattle.packets.specs.Packets.{header}
+use Rattle.unframing.specs.Line.{stepOf, Closed as ClosedPacket}
+use Rattle.unframing.specs.declared.Line.{Line}
+use Rattle.unframing.specs.declared.Reason.{Reason}
+use Rattle.loader_state.specs.Refusals.{BufferLengths, refusal}
 use Rattle.answers.specs.Answer.{statusOf, answerBytes}
 use Rattle.effects.specs.Core.{Core}
 use Rattle.effects.specs.Notes.{Order, noted}
 use Rattle.effects.specs.Handle.{Reply, nothing, replied, Handled, handle}
-use Rattle.loader.specs.declared.Loader.{Loader}
-use Rattle.sessions.specs.declared.Session.the-variants.{Closed}
+use Rattle.loader_state.specs.declared.Loader.{Loader}
 use Rattle.loader.specs.declared.Answer.{Answer}
 use Rattle.loader.specs.declared.Answer.the-variants as code
 use Rattle.loader.specs.declared.Fed.{Fed}
 
--- what a call tells: a refusal by its number; its bytes taken, and nothing closed; a closed packet with the number of stored bytes, dropped, or read with its command, status and error, how many bytes of answer were written, and what the caller is to do
+-- what a call tells: a refusal by its number; its bytes taken, and nothing closed; a closed packet with the number of stored bytes, dropped for a reason, or read with its command, status and error, how many bytes of answer were written, and what the caller is to do
 pub data Told : Type 0 where
   refused : ℕ → Told
   taken : Told
-  dropped : (stored : ℕ) → Told
+  dropped : (stored : ℕ) → Reason → Told
   answered : (stored command status error sent : ℕ) → Order → Told
 
 abbrev pub told : Answer → Told
 told (code.Refused n) = refused n
 told code.Taken = taken
-told (code.Dropped n) = dropped n
+told (code.Dropped n w) = dropped n w
 told (code.Answered n c e sent note) = answered n c (statusOf e) e sent (noted note)
-
--- the record that a start begins with
-abbrev pub freshLoader : Loader
-freshLoader = record { line = fresh; session = Closed; attach = 0 }
 
 pub record Step : Type 0 where
   pub told : Told
@@ -67,11 +62,11 @@ refusing n r packet answer flash words =
 
 -- "On both lines what is sent, framed, fills the front of answer room; the rest, or all of it without an answer, stays."
 unfoldable pub answerBuffer : Reply → List ℕ → List ℕ
-answerBuffer nothing buffer = buffer
+answerBuffer (nothing w) buffer = buffer
 answerBuffer (replied c e v order) buffer = lay buffer 0 (framed (answerBytes c e v))
 
 unfoldable pub toldOf : ℕ → Reply → Told
-toldOf stored nothing = dropped stored
+toldOf stored (nothing w) = dropped stored w
 toldOf stored (replied c e v order) = answered stored c (statusOf e) e (length (framed (answerBytes c e v))) order
 
 -- a call that closed a packet, which was handled

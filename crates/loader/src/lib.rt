@@ -1,34 +1,27 @@
 // The chip's end of the ESP serial protocol: the call that is made with each run of received bytes.
 mod header;
-mod refusals;
 
 pub use answers::LONGEST_ANSWER;
-pub use answers::status_of;
 pub use effects::Note;
-use framing::Closing;
-use framing::Line;
 use header::read_packet;
-use refusals::refusal_of;
+pub use loader_state::Loader;
+pub use loader_state::new;
+use loader_state::refusal_of;
 pub use sessions::Session;
+use unframing::Closing;
+pub use unframing::Reason;
 ghost use mathlib.Core.Path.{_≡_};
 ghost use mathlib.Core.Bool.{true};
-ghost use mathlib.Core.Option.{some};
 ghost use Prim.Native.Nat.{_≤_};
 ghost use lib.ListN.{length};
-ghost use Rattle.framing.specs.Packets.{header};
+ghost use Rattle.unframing.specs.Reasons.{whole};
+ghost use Rattle.packets.specs.Packets.{header};
 ghost use Rattle.sessions.specs.Session.{sessionGood};
 ghost use Rattle.effects.specs.Handle.{handle};
 ghost use Rattle.answers.specs.Reply.{longestAnswer};
-ghost use Rattle.loader.specs.Step.{step, Feeds, freshLoader, coreOf};
+ghost use Rattle.loader.specs.Step.{step, Feeds, coreOf};
 ghost use Rattle.loader.specs.RunStep.{runStep, FeedsRun};
 ghost use Rattle.loader.specs.Parts.{Acts};
-
-// The loader's record. The caller keeps what each call hands back, and hands it to the next call.
-pub struct Loader {
-    pub line: Line,
-    pub session: Session,
-    pub attach: u32,
-}
 
 // What a call answers.
 pub enum Answer {
@@ -37,9 +30,10 @@ pub enum Answer {
     Refused(u8),
     // all bytes are taken, and close nothing: nothing to send
     Taken,
-    // a packet is closed and dropped, of which `stored` bytes went into the packet buffer: nothing to send
+    // a packet, of which `stored` bytes went into the packet buffer, is closed and dropped for this reason: nothing to send
     Dropped {
         stored: usize,
+        reason: Reason,
     },
     // a packet of `stored` bytes is closed, read and answered: send the first `sent` bytes of the answer buffer, and then do what the note says
     Answered {
@@ -65,20 +59,21 @@ pub struct Fed {
     pub loader: Loader,
 }
 
-// A closed packet: dropped, or read, with its command.
+// A closed packet: dropped for a reason, or read, with its command.
 pub enum Packet {
-    Dropped,
+    Dropped(Reason),
     Read(u8),
 }
 
-// The record that a start begins with: for the first call.
-pub fn new() -> Loader
-    ensures { λ r. ⌜ r ≡ freshLoader ⌝ }
+// Why a packet that is not read was dropped.
+fn reason_of(closed: Packet) -> Reason
+    requires { ⌜ ((w : Reason) × (closed ≡ Packet.Dropped w)) ⌝ }
+    ensures { λ r. ⌜ closed ≡ Packet.Dropped r ⌝ }
 {
-    Loader {
-        line: framing::new(),
-        session: Session::Closed,
-        attach: 0,
+    match closed {
+        Packet::Dropped(reason) => reason,
+        // a read packet never comes here
+        Packet::Read(_) => Reason::WrongDirection,
     }
 }
 
@@ -87,15 +82,17 @@ fn act(loader: Loader, packet: &[u8], answer: &mut [u8], flash: &mut [u8], words
     requires { ⌜ (longestAnswer ≤ length (now answer))
         × (sessionGood (record { flash = length (now flash); words = length (now words) }) (loader .session) ≡ true) ⌝ }
     ensures { λ r. ⌜ Acts
-        (handle (coreOf loader (now (flash .entry)) (now (words .entry))) (header (some (now (packet .entry)))))
+        (handle (coreOf loader (now (flash .entry)) (now (words .entry))) (header (whole (now (packet .entry)))))
         loader (length (now (packet .entry))) (now (answer .entry)) r
         (now (answer .exit)) (now (flash .exit)) (now (words .exit)) ⌝ }
 {
     let stored = packet.len();
     let closed = read_packet(packet);
     let Packet::Read(command) = closed else {
+        let reason = reason_of(closed);
+        let said = Answer::Dropped { stored, reason };
         return Fed {
-            answer: Answer::Dropped { stored },
+            answer: said,
             loader,
         };
     };
@@ -175,9 +172,9 @@ pub fn feed_run(
                 loader: left,
             }
         }
-        Closing::Broken(stored) => RunFed {
+        Closing::Broken(stored, reason) => RunFed {
             taken,
-            answer: Answer::Dropped { stored },
+            answer: Answer::Dropped { stored, reason },
             loader: next,
         },
     }

@@ -1,7 +1,8 @@
 // Every theorem, a function each: the contract is the theorem, and a theorem without a proof is an unproved function.
-ghost use Rattle.loader.specs.Theorems.{RefusedChangesNothing, RunRefusedChangesNothing, EmptyRunChangesNothing};
-ghost use Rattle.loader.specs.Theorems.{FailedChangesNothing, RunFailedChangesNothing};
-ghost use Rattle.framing.specs.Theorems.{RoundTrip, FrameComesBack, CutOfFrame, StepsAreCut};
+ghost use Rattle.claims.specs.ChangesNothing.{RefusedChangesNothing, RunRefusedChangesNothing, EmptyRunChangesNothing};
+ghost use Rattle.claims.specs.ChangesNothing.{FailedChangesNothing, RunFailedChangesNothing};
+ghost use Rattle.packets.specs.Theorems.{RoundTrip, FrameComesBack, CutOfFrame, StepsAreCut};
+ghost use Rattle.packets.specs.Theorems.{FirstDecides, DroppedAsBefore};
 ghost use Rattle.runs.specs.Theorems.{TakesMost, TakesSome, GoesOn, StaysClosed, RunComesBack};
 ghost use Rattle.fields.specs.Theorems.{WordBack, PackedSays};
 ghost use Rattle.begins.specs.Count.{CountIsDividedUp};
@@ -11,6 +12,7 @@ ghost use Rattle.claims.specs.CallHistory.{CallsAreHistory};
 ghost use Rattle.claims.specs.RunHistory.{RunsAreHistory};
 ghost use Rattle.claims.specs.Demand3.{Demand3};
 ghost use Rattle.claims.specs.Demand3Runs.{Demand3Runs};
+ghost use Rattle.claims.specs.Reasons.{ReasonsTold, RunReasonsTold};
 ghost use Rattle.claims.specs.RunsAreBytes.{RunsAreBytes};
 ghost use Rattle.claims.specs.HoweverCut.{HoweverCut};
 ghost use Rattle.claims.specs.Arrives.{PacketArrives, FrameArrives};
@@ -45,7 +47,7 @@ pub fn empty_run_changes_nothing()
     ensures { λ r. ⌜ EmptyRunChangesNothing ⌝ }
 {}
 
-// A call that closes a packet whose command fails answers it with its error, and one that drops a packet tells it; no other call tells
+// A call that closes a packet whose command fails answers it with its error, and one that drops a packet tells why; no other call tells
 // either, and session, attach word, flash and words stay.
 pub fn failed_changes_nothing()
     ensures { λ r. ⌜ FailedChangesNothing ⌝ }
@@ -78,7 +80,7 @@ pub fn run_comes_back()
     ensures { λ r. ⌜ RunComesBack ⌝ }
 {}
 
-// For every list of bytes the byte step closes the packets of the cut, each with its contents or dropped, and its count.
+// For every list of bytes the byte step closes the packets of the cut, each with its contents or why it has none, and its count.
 pub fn steps_are_cut()
     ensures { λ r. ⌜ StepsAreCut ⌝ }
 {}
@@ -145,6 +147,29 @@ pub fn runs_are_bytes()
 // However a stream is cut into runs, each handed over again until it is taken, it is fed as byte by byte; two ways of cutting agree.
 pub fn however_cut()
     ensures { λ r. ⌜ HoweverCut ⌝ }
+{}
+
+// ---- Reasons: why a packet is dropped.
+
+// Of a bad escape, an escape cut by C0 and a 4,121st byte the first in the stream decides, whatever follows it; where there is none, a
+// packet of fewer than 8 bytes is too short, and one of 8 and more is judged by its direction. One of these decides every stretch.
+pub fn first_decides()
+    ensures { λ r. ⌜ FirstDecides ⌝ }
+{}
+
+// With the reasons forgotten, the packets of every line are those of document 01 alone: what is dropped has not changed.
+pub fn dropped_as_before()
+    ensures { λ r. ⌜ DroppedAsBefore ⌝ }
+{}
+
+// Over every list of byte calls, a call that closes a packet tells a reason exactly where the cut drops that packet, and tells that one.
+pub fn reasons_told()
+    ensures { λ r. ⌜ ReasonsTold ⌝ }
+{}
+
+// The same of run calls.
+pub fn run_reasons_told()
+    ensures { λ r. ⌜ RunReasonsTold ⌝ }
 {}
 
 // ---- Demand 3: FLASH_END succeeds exactly where the packets so far fit the grammar, and flash is then as announced.
@@ -255,7 +280,8 @@ pub fn starred()
 {}
 
 // The listing of the example's bytes, in whatever blocks they are handed over, is its heading and its two lines; a dropped packet behind
-// them has `--` in its fields. On one text buffer it makes no difference, for any input, where the blocks end.
+// them has its reason as the last field, and `--` in the two before; the line of each reason. On one text buffer it makes no difference,
+// for any input, where the blocks end.
 pub fn example()
     ensures { λ r. ⌜ Example ⌝ }
 {}

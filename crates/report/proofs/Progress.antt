@@ -23,7 +23,7 @@ report-passed : (t : Told) (next after : Listing) (u k n m : ℕ) → reportOf t
 unfolding reportOf
 report-passed (refused i) next after u k n m e = let z : _≡_ {A = ℕ} 0 1 = cc in absurd (omega arith)
 report-passed taken next after u k n m e = record { count = cc; free = λ i f. let z : _≡_ {A = ℕ} 0 1 = cc in omega arith }
-report-passed (dropped i) next after u k n m e = record { count = cc; free = λ i f. let z : _≡_ {A = ℕ} 0 1 = cc in omega arith }
+report-passed (dropped i w) next after u k n m e = record { count = cc; free = λ i f. let z : _≡_ {A = ℕ} 0 1 = cc in omega arith }
 report-passed (answered i c s e′ j o) next after u k n m e = record { count = cc; free = λ i f. let z : _≡_ {A = ℕ} 0 1 = cc in omega arith }
 
 module _ (l : Listing) (run packet answer flash words text : List ℕ) (used : ℕ) (next : Listing) (n m : ℕ) where

@@ -6,9 +6,14 @@ use mathlib.Core.Bool.{Bool, true, false, cond}
 use native.Mathlib.Nat.{add-zero}
 use native.Mathlib.Omega.{arith}
 use borrow.Author.Tests.{leb-false}
-use lib.ListN.{length, length-append, length-take}
+use lib.ListN.{length, take, length-append, length-take}
 use Rattle.lists.specs.Lay.{lay}
 use Rattle.lists.proofs.Laws.{lay-nil}
+use Rattle.unframing.specs.Reasons.{letters}
+use Rattle.unframing.specs.declared.Reason.{Reason}
+use Rattle.unframing.specs.declared.Reason.the-variants.{BadEscape, CutEscape, TooLong, TooShort, WrongDirection}
+use Rattle.columns.specs.Columns.{fieldsOf, dashes, Holds}
+use Rattle.columns.specs.declared.DroppedFields.{DroppedFields}
 use Rattle.loader.specs.Step.{Told, refused, taken, dropped, answered, told}
 use Rattle.loader.specs.RunStep.{RunStep, runStep, FeedsRun}
 use Rattle.loader.specs.declared.RunFed.{RunFed}
@@ -25,12 +30,29 @@ no-line buffer used = record { tells = sym (add-zero used); leaves = sym (lay-ni
 pub row : {text buffer after : List ℕ} {used n : ℕ} → (n ≡ used + length text) × (after ≡ lay buffer used text) → Appends text buffer used n after
 row e = record { tells = e .0; leaves = e .1 }
 
+-- the fields told lie within their bytes
+pub told-within : {text : List ℕ} {r : DroppedFields} → Holds text r → r .count ≤ length (r .bytes)
+told-within h = omega (arith, h .count, simp length-take at (ap length (h .front)))
+
+-- a reason has at most five letters
+letters-fit : (w : Reason) → length (letters w) ≤ 5
+unfolding letters
+letters-fit BadEscape = omega arith
+letters-fit CutEscape = omega arith
+letters-fit TooLong = omega arith
+letters-fit TooShort = omega arith
+letters-fit WrongDirection = omega arith
+
+-- so its fields have at most 13 bytes
+pub dropped-fit : (w : Reason) {r : DroppedFields} → Holds (fieldsOf dashes dashes (letters w)) r → length (take (r .count) (r .bytes)) ≤ 13
+dropped-fit w h = omega (arith, letters-fit w, simp length-append at (ap length (h .front)))
+
 -- a call of the loader is never told as a run that was not fed
 report-fed : (t : Told) (next : Listing) (u k : ℕ) {A : Type 0} → reportOf t next u k ≡ not-fed → A
 unfolding reportOf
 report-fed (refused n) next u k e = let z : _≡_ {A = ℕ} 0 1 = cc in absurd (omega arith)
 report-fed taken next u k e = let z : _≡_ {A = ℕ} 0 1 = cc in absurd (omega arith)
-report-fed (dropped n) next u k e = let z : _≡_ {A = ℕ} 0 1 = cc in absurd (omega arith)
+report-fed (dropped n w) next u k e = let z : _≡_ {A = ℕ} 0 1 = cc in absurd (omega arith)
 report-fed (answered n c s e′ m o) next u k e = let z : _≡_ {A = ℕ} 0 1 = cc in absurd (omega arith)
 
 -- what is told as used is what was used
@@ -38,7 +60,7 @@ report-used : (t : Told) (next after : Listing) (u k n m : ℕ) → reportOf t n
 unfolding reportOf
 report-used (refused i) next after u k n m e = let z : _≡_ {A = ℕ} 0 1 = cc in absurd (omega arith)
 report-used taken next after u k n m e = cc
-report-used (dropped i) next after u k n m e = cc
+report-used (dropped i w) next after u k n m e = cc
 report-used (answered i c s e′ j o) next after u k n m e = cc
 
 module _ (l : Listing) (run packet answer flash words text : List ℕ) (used : ℕ) where
@@ -53,7 +75,7 @@ module _ (l : Listing) (run packet answer flash words text : List ℕ) (used : �
   full-at true h e = report-fed (fed .step .told) _ _ _ e
   full-at false h e = leb-false _ _ h
 
-  -- where the text is said to be full, fewer than 30 bytes are left
+  -- where the text is said to be full, fewer than 33 bytes are left
   pub full-where : {r : Listed} → listReport r ≡ listStep l run packet answer flash words text used .said → r ≡ Full → length text < used + longestLine
   unfolding listStep
   full-where e f = full-at (hasSpace (length text) used) refl (sym e ∙ ap listReport f)

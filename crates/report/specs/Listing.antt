@@ -5,7 +5,8 @@ use mathlib.Core.List.{List}
 use mathlib.Core.Bool.{cond}
 use lib.ListN.{length}
 use Rattle.lists.specs.Lay.{lay}
-use Rattle.loader.specs.Step.{Told, refused, taken, dropped, answered, freshLoader}
+use Rattle.loader_state.specs.Record.{freshLoader}
+use Rattle.loader.specs.Step.{Told, refused, taken, dropped, answered}
 use Rattle.loader.specs.RunStep.{RunStep, runStep}
 use Rattle.report.specs.Lines.{lineOf, hasSpace}
 use Rattle.report.specs.declared.Listing.{Listing}
@@ -20,7 +21,7 @@ freshListing = record { loader = freshLoader; number = 1 }
 unfoldable pub numberAfter : Told → ℕ → ℕ
 numberAfter (refused n) number = number
 numberAfter taken number = number
-numberAfter (dropped stored) number = (number + 1) % 2 ^ 64
+numberAfter (dropped stored w) number = (number + 1) % 2 ^ 64
 numberAfter (answered stored command status error sent order) number = (number + 1) % 2 ^ 64
 
 -- what a call of the listing says: that its run was not fed, for want of space; that the loader refused the call, with its number; or the next
@@ -39,7 +40,7 @@ listReport (Fed next used count) = listed next used count
 unfoldable pub reportOf : Told → Listing → (used count : ℕ) → ListReport
 reportOf (refused n) next used count = call-refused n
 reportOf taken next used count = listed next used count
-reportOf (dropped stored) next used count = listed next used count
+reportOf (dropped stored w) next used count = listed next used count
 reportOf (answered stored command status error sent order) next used count = listed next used count
 
 -- what a call of the listing comes to: what it says, and each lent buffer afterwards

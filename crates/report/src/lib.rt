@@ -1,34 +1,21 @@
 // The lines of the listing, and the call that lists a run of received bytes.
+use columns::dropped_fields;
+pub use columns::heading;
+use columns::read_fields;
 use loader::Answer;
 use loader::Loader;
-use loader::status_of;
 ghost use mathlib.Core.Path.{_≡_};
 ghost use mathlib.Core.List.{_++_};
 ghost use Prim.Native.Nat.{_+_, _≤_, _<_};
 ghost use lib.ListN.{length};
 ghost use Rattle.lists.specs.Lay.{lay};
-ghost use Rattle.answers.specs.Answer.{statusOf};
 ghost use Rattle.loader.specs.Step.{told};
-ghost use Rattle.report.specs.Numbers.{hexDigit, hex2, decimal};
-ghost use Rattle.report.specs.Lines.{heading as Lines·heading};
-ghost use Rattle.report.specs.Lines.{fieldsOf, dashes, lineOf, longestLine, hasSpace, Appends, Writes};
+ghost use Rattle.report.specs.Numbers.{decimal};
+ghost use Rattle.report.specs.Lines.{lineOf, longestLine, hasSpace, Appends, Writes};
 ghost use Rattle.report.specs.Listing.{freshListing, numberAfter, listReport, reportOf, listStep, Lists};
 
-// The bytes that hold every line: a number of 20 digits, and 10 bytes.
-pub const LONGEST_LINE: usize = 30;
-
-const TAB: u8 = b'\t';
-
-const LINE_FEED: u8 = b'\n';
-
-const DASH: u8 = b'-';
-
-// The heading's bytes; a byte's two digits; what stands behind a line's number.
-pub type HeadingBytes = [u8; 24];
-
-pub type HexDigits = [u8; 2];
-
-type RowFields = [u8; 10];
+// The bytes that hold every line: a number of 20 digits, and 13 bytes.
+pub const LONGEST_LINE: usize = 33;
 
 // A loader, and the number of the next packet.
 pub struct Listing {
@@ -38,7 +25,7 @@ pub struct Listing {
 
 // What `line` says.
 pub enum Written {
-    // fewer than 30 bytes are left in the buffer: nothing is written
+    // fewer than 33 bytes are left in the buffer: nothing is written
     Full,
     // the line is written, and so many bytes of the buffer are used
     Used(usize),
@@ -46,7 +33,7 @@ pub enum Written {
 
 // What `feed_run` says.
 pub enum Listed {
-    // fewer than 30 bytes are left in the text's buffer: nothing is fed, and nothing changes
+    // fewer than 33 bytes are left in the text's buffer: nothing is fed, and nothing changes
     Full,
     // the loader refused the call, with its number from 1 to 5: no byte is taken, and nothing changes
     Refused(u8),
@@ -60,20 +47,6 @@ pub enum Listed {
 }
 
 // ---- numbers
-
-fn hex_digit(d: u8) -> u8
-    requires { ⌜ d < 16 ⌝ }
-    ensures { λ r. ⌜ r ≡ hexDigit d ⌝ }
-{
-    if d < 10 { b'0' + d } else { b'A' + (d - 10) }
-}
-
-// A byte as two hexadecimal digits, in upper case.
-pub fn hex(byte: u8) -> HexDigits
-    ensures { λ r. ⌜ r ≡ hex2 byte ⌝ }
-{
-    [hex_digit(byte / 16), hex_digit(byte % 16)]
-}
 
 // A digit below 10.
 fn decimal_digit(d: u64) -> u8
@@ -98,30 +71,6 @@ fn put_decimal(number: u64, buffer: &mut [u8], at: usize) -> usize
 }
 
 // ---- lines
-
-// The listing's first line.
-pub fn heading() -> HeadingBytes
-    ensures { λ r. ⌜ r ≡ Lines·heading ⌝ }
-{
-    *b"no\tcommand\tstatus\terror\n"
-}
-
-// What follows the number of a packet that was read.
-fn read_fields(command: u8, error: u8) -> RowFields
-    ensures { λ r. ⌜ r ≡ fieldsOf (hex2 command) (hex2 (statusOf error)) (hex2 error) ⌝ }
-{
-    let c = hex(command);
-    let s = hex(status_of(error));
-    let e = hex(error);
-    [TAB, c[0], c[1], TAB, s[0], s[1], TAB, e[0], e[1], LINE_FEED]
-}
-
-// What follows the number of a packet that was dropped.
-fn dropped_fields() -> RowFields
-    ensures { λ r. ⌜ r ≡ fieldsOf dashes dashes dashes ⌝ }
-{
-    [TAB, DASH, DASH, TAB, DASH, DASH, TAB, DASH, DASH, LINE_FEED]
-}
 
 // A line of a number and the fields behind it, from `used` on, where the buffer has the space; how many bytes are used then.
 fn write_row(number: u64, fields: &[u8], buffer: &mut [u8], used: usize) -> usize
@@ -155,9 +104,10 @@ fn put_line(number: u64, answer: Answer, buffer: &mut [u8], used: usize) -> usiz
     match answer {
         Answer::Refused(_) => used,
         Answer::Taken => used,
-        Answer::Dropped { stored: _ } => {
-            let fields = dropped_fields();
-            write_row(number, &fields, buffer, used)
+        Answer::Dropped { stored: _, reason } => {
+            let fields = dropped_fields(reason);
+            let bytes = fields.bytes;
+            write_row(number, &bytes[..fields.count], buffer, used)
         }
         Answer::Answered {
             stored: _,
@@ -201,7 +151,10 @@ fn next_number(answer: Answer, number: u64) -> u64
     match answer {
         Answer::Refused(_) => number,
         Answer::Taken => number,
-        Answer::Dropped { stored: _ } => std::num::wrapping_add_u64(number, 1),
+        Answer::Dropped {
+            stored: _,
+            reason: _,
+        } => std::num::wrapping_add_u64(number, 1),
         Answer::Answered {
             stored: _,
             command: _,
@@ -223,7 +176,10 @@ fn listed_as(answer: Answer, listing: Listing, used: usize, taken: usize) -> Lis
             used,
             taken,
         },
-        Answer::Dropped { stored: _ } => Listed::Fed {
+        Answer::Dropped {
+            stored: _,
+            reason: _,
+        } => Listed::Fed {
             listing,
             used,
             taken,

@@ -7,11 +7,11 @@ use native.Mathlib.Numerals.{one-add}
 use native.Mathlib.Omega.{arith}
 use lib.ListN.{length, take}
 use Rattle.framing.specs.Frame.{longest}
-use Rattle.framing.specs.Line.{Closed, lineState, silent, stepOf}
-use Rattle.framing.specs.declared.Line.{Line}
-use Rattle.framing.specs.declared.Phase.the-variants.{Inside}
-use Rattle.framing.proofs.Cut.{todo}
-use Rattle.framing.proofs.Invariant.{Pend, Fed, still, whole, broken, todo-nil, fed}
+use Rattle.unframing.specs.Line.{Closed, lineState, silent, stepOf}
+use Rattle.unframing.specs.declared.Line.{Line}
+use Rattle.unframing.specs.declared.Phase.the-variants.{Inside}
+use Rattle.packets.proofs.Cut.{todo}
+use Rattle.packets.proofs.Invariant.{Pend, Fed, still, closes, todo-nil, fed}
 use Rattle.runs.specs.Run.{Run, runOf}
 use Rattle.runs.proofs.Passing.{goes, stops}
 
@@ -61,8 +61,7 @@ first-byte : (b : ℕ) (bs : List ℕ) (l : Line) (buffer : List ℕ) (o : Optio
 unfolding Runs-from
 first-byte b bs l buffer o r p rest (still m after o′ e k q w) =
     goes-further l b bs buffer o p o′ w m after e k (rest m after o′ (omega arith) q)
-first-byte b bs l buffer o r p rest (whole n e h k w) = closes-first l b bs buffer o p _ e w
-first-byte b bs l buffer o r p rest (broken n e h k w) = closes-first l b bs buffer o p _ e w
+first-byte b bs l buffer o r p rest (closes n c e h k w) = closes-first l b bs buffer o p _ e w
 
 -- A run, fed where the invariant holds.
 pub run-fed : (bytes : List ℕ) (l : Line) (buffer : List ℕ) (o : Option (List ℕ)) → longest ≤ length buffer → Pend buffer l o → RunsTo buffer o bytes (runOf l bytes buffer)

@@ -5,15 +5,16 @@ use mathlib.Core.List.{List, [], _∷_}
 use mathlib.Core.Option.{Option, none, some}
 use native.Mathlib.Omega.{arith}
 use lib.ListN.{length}
-use Rattle.framing.specs.Line.{Closed, Step, stepOf}
-use Rattle.framing.specs.declared.Line.{Line}
-use Rattle.framing.proofs.Steps.{step-contents}
-use Rattle.framing.proofs.Kept.{Keeps, step-keeps}
+use Rattle.unframing.specs.Reasons.{whole}
+use Rattle.unframing.specs.Line.{Closed, Step, stepOf}
+use Rattle.unframing.specs.declared.Line.{Line}
+use Rattle.unframing.proofs.Steps.{step-contents}
+use Rattle.unframing.proofs.Kept.{Keeps, step-keeps}
 use Rattle.runs.specs.Run.{Run, ahead, stopped, stopOrGo, runOf}
 
 -- the packets with contents that a run closes are in the packet buffer
 abbrev pub Within : List ℕ → Run → Type 0
-Within buffer x = (d : Closed) (p : List ℕ) → x .step .closed ≡ some d → d .contents ≡ some p → d .stored ≤ length buffer
+Within buffer x = (d : Closed) (p : List ℕ) → x .step .closed ≡ some d → d .contents ≡ whole p → d .stored ≤ length buffer
 
 pub run-keeps : (bytes : List ℕ) (l : Line) (buffer : List ℕ) → Keeps (l .held) buffer (runOf l bytes buffer .step)
 unfolding runOf

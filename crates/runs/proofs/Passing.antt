@@ -9,11 +9,11 @@ use native.Mathlib.Numerals.{add-one}
 use native.Mathlib.Omega.{arith}
 use lib.ListN.{length, getD, drop}
 use lib.Seq.{drop-cons, drop-length}
-use Rattle.framing.specs.Line.{Closed, stepOf, closedBy, Steps}
-use Rattle.framing.specs.declared.Line.{Line}
-use Rattle.framing.specs.declared.Stepped.{Stepped}
-use Rattle.framing.specs.declared.Closing.{Closing}
-use Rattle.framing.specs.declared.Closing.the-variants.{Open, Whole, Broken}
+use Rattle.unframing.specs.Line.{Closed, stepOf, closedBy, Steps}
+use Rattle.unframing.specs.declared.Line.{Line}
+use Rattle.unframing.specs.declared.Stepped.{Stepped}
+use Rattle.unframing.specs.declared.Closing.{Closing}
+use Rattle.unframing.specs.declared.Closing.the-variants.{Open, Whole, Broken}
 use Rattle.runs.specs.Run.{ahead, stopped, runOf, closes, Runs}
 
 -- n bytes of the run lead from the state l to m, close nothing, and make of the packet buffer what `after` says
@@ -37,7 +37,7 @@ module _ (l : Line) (b : ℕ) (bs buffer : List ℕ) where
 open-closes : (c : Closing) (buffer : List ℕ) → closes c ≡ false → closedBy c buffer ≡ none
 open-closes Open buffer e = refl
 open-closes (Whole n) buffer e = let z : _≡_ {A = ℕ} 0 1 = cc in absurd (omega arith)
-open-closes (Broken n) buffer e = let z : _≡_ {A = ℕ} 0 1 = cc in absurd (omega arith)
+open-closes (Broken n w) buffer e = let z : _≡_ {A = ℕ} 0 1 = cc in absurd (omega arith)
 
 record Some (c : Closing) (buffer : List ℕ) : Type 0 where
   packet : Closed
@@ -46,7 +46,7 @@ record Some (c : Closing) (buffer : List ℕ) : Type 0 where
 shut-closes : (c : Closing) (buffer : List ℕ) → closes c ≡ true → Some c buffer
 shut-closes Open buffer e = let z : _≡_ {A = ℕ} 0 1 = cc in absurd (omega arith)
 shut-closes (Whole n) buffer e = record { packet = _; is = refl }
-shut-closes (Broken n) buffer e = record { packet = _; is = refl }
+shut-closes (Broken n w) buffer e = record { packet = _; is = refl }
 
 -- the byte at a place of the run, stepped from where the bytes before it led
 module _

@@ -9,13 +9,14 @@ use native.Mathlib.Omega.{arith}
 use lib.ListN.{length, length-append}
 use Rattle.lists.specs.Lay.{lay}
 use Rattle.framing.specs.Frame.{END, longest, escaped, framed}
-use Rattle.framing.specs.Line.{Closed, Step, lineState, silent, closed, stepOf}
-use Rattle.framing.specs.Run.{closedPackets, stateAfter, bufferAfter}
-use Rattle.framing.specs.Theorems.{BetweenPackets}
-use Rattle.framing.specs.declared.Line.{Line}
-use Rattle.framing.specs.declared.Phase.the-variants.{Inside}
-use Rattle.framing.proofs.Runs.{Leads}
-use Rattle.framing.proofs.Theorems.{frame-leads, closing, laid}
+use Rattle.unframing.specs.Reasons.{whole}
+use Rattle.unframing.specs.Line.{Closed, Step, lineState, silent, closed, stepOf}
+use Rattle.packets.specs.Run.{closedPackets, stateAfter, bufferAfter}
+use Rattle.packets.specs.Theorems.{BetweenPackets}
+use Rattle.unframing.specs.declared.Line.{Line}
+use Rattle.unframing.specs.declared.Phase.the-variants.{Inside}
+use Rattle.packets.proofs.Runs.{Leads}
+use Rattle.packets.proofs.Theorems.{frame-leads, closing, laid}
 use Rattle.runs.specs.Run.{Run, ahead, stopped, stopOrGo, runOf}
 use Rattle.runs.specs.Theorems.{TakesMost, TakesSome, GoesOn, StaysClosed, RunComesBack}
 use Rattle.runs.proofs.Passing.{stops}
@@ -115,14 +116,14 @@ module _ (l : Line) (buffer p : List ℕ) (between : BetweenPackets l) (long : l
   led = rw append-nil at (frame-leads l buffer p between long filled fits [])
 
   frame-run : (more : List ℕ) → runOf l (END ∷ escaped p ++ END ∷ more) buffer
-      ≡ ahead (length (END ∷ escaped p)) (stopped (closed (length p) (some p) (lay buffer 0 p)))
+      ≡ ahead (length (END ∷ escaped p)) (stopped (closed (length p) (whole p) (lay buffer 0 p)))
   unfolding closedPackets stateAfter bufferAfter
   frame-run more =
-      let c : stepOf (stateAfter l buffer (END ∷ escaped p)) END (bufferAfter l buffer (END ∷ escaped p)) ≡ closed (length p) (some p) (lay buffer 0 p) =
+      let c : stepOf (stateAfter l buffer (END ∷ escaped p)) END (bufferAfter l buffer (END ∷ escaped p)) ≡ closed (length p) (whole p) (lay buffer 0 p) =
       rw (led .state, led .after) (closing l buffer p between long filled fits ∙ rw (laid l buffer p between long filled fits)) in
       run-ends (END ∷ escaped p) END l buffer (led .closes) _ more (ap (λ s. s .closed) c) ∙ rw c
 
 pub run-comes-back : RunComesBack
 unfolding framed
 run-comes-back l buffer p more between long filled fits =
-    rw append-assoc (frame-run l buffer p between long filled fits more ∙ ap (λ n. record { taken = n; step = closed (length p) (some p) (lay buffer 0 p) }) (simp length-append (omega arith)))
+    rw append-assoc (frame-run l buffer p between long filled fits more ∙ ap (λ n. record { taken = n; step = closed (length p) (whole p) (lay buffer 0 p) }) (simp length-append (omega arith)))

@@ -4,10 +4,10 @@ use mathlib.Core.Path.{_≡_}
 use mathlib.Core.List.{List, [], _∷_}
 use mathlib.Core.Bool.{Bool, true, false}
 use mathlib.Core.Option.{Option, none, some}
-use Rattle.framing.specs.Line.{Closed, Step, silent, stepOf, closedBy}
-use Rattle.framing.specs.declared.Line.{Line}
-use Rattle.framing.specs.declared.Closing.{Closing}
-use Rattle.framing.specs.declared.Closing.the-variants.{Open, Whole, Broken}
+use Rattle.unframing.specs.Line.{Closed, Step, silent, stepOf, closedBy}
+use Rattle.unframing.specs.declared.Line.{Line}
+use Rattle.unframing.specs.declared.Closing.{Closing}
+use Rattle.unframing.specs.declared.Closing.the-variants.{Open, Whole, Broken}
 use Rattle.runs.specs.declared.Ran.{Ran}
 
 -- what a run comes to: how many bytes were taken, and what these come to, as one byte does: the packet closed, the next state, the packet buffer
@@ -43,7 +43,7 @@ runOf l (b ∷ bs) buffer =
 abbrev pub closes : Closing → Bool
 closes Open = false
 closes (Whole n) = true
-closes (Broken n) = true
+closes (Broken n w) = true
 
 -- the count, what the answer closes, its state and the packet buffer at exit are those of x
 pub record Runs (x : Run) (r : Ran) (after : List ℕ) : Type 0 where

@@ -2,13 +2,14 @@
 use Prim.Native.Nat.{ℕ, _≤_, _<_}
 use mathlib.Core.Path.{_≡_}
 use mathlib.Core.List.{List, _++_}
-use mathlib.Core.Option.{none, some}
+use mathlib.Core.Option.{none}
 use lib.ListN.{length}
 use Rattle.lists.specs.Lay.{lay}
 use Rattle.framing.specs.Frame.{longest, framed}
-use Rattle.framing.specs.Line.{closed}
-use Rattle.framing.specs.Theorems.{BetweenPackets}
-use Rattle.framing.specs.declared.Line.{Line}
+use Rattle.unframing.specs.Reasons.{whole}
+use Rattle.unframing.specs.Line.{closed}
+use Rattle.packets.specs.Theorems.{BetweenPackets}
+use Rattle.unframing.specs.declared.Line.{Line}
 use Rattle.runs.specs.Run.{ahead, runOf}
 
 -- No more is taken than there is.
@@ -38,4 +39,4 @@ abbrev pub RunComesBack : Type 0
 RunComesBack =
     (l : Line) (buffer p more : List ℕ) → BetweenPackets l → longest ≤ length buffer → 1 ≤ length p → length p ≤ longest
     → runOf l (framed p ++ more) buffer
-    ≡ record { taken = length (framed p); step = closed (length p) (some p) (lay buffer 0 p) }
+    ≡ record { taken = length (framed p); step = closed (length p) (whole p) (lay buffer 0 p) }

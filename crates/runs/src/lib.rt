@@ -1,6 +1,6 @@
 // A run of line bytes, stepped at once up to the byte that closes a packet.
-use framing::Closing;
-use framing::Line;
+use unframing::Closing;
+use unframing::Line;
 ghost use mathlib.Core.Path.{_≡_};
 ghost use Rattle.runs.specs.Run.{closes, runOf, Runs};
 
@@ -21,19 +21,19 @@ fn is_closed(closing: Closing) -> bool
     match closing {
         Closing::Open => false,
         Closing::Whole(_) => true,
-        Closing::Broken(_) => true,
+        Closing::Broken(_, _) => true,
     }
 }
 
 // A run of line bytes: it is taken up to and with the byte that closes a packet, or whole where none does. The buffer is lent as for
-// `framing::step`; a packet that is closed is to be read before the rest of the run is handed over.
+// `unframing::step`; a packet that is closed is to be read before the rest of the run is handed over.
 pub fn run(line: Line, bytes: &[u8], buffer: &mut [u8]) -> Ran
     ensures { λ r. ⌜ Runs (runOf line (now (bytes .entry)) (now (buffer .entry))) r (now (buffer .exit)) ⌝ }
 {
     let mut state = line;
     let mut i: usize = 0;
     while i < bytes.len() {
-        let stepped = framing::step(state, bytes[i], buffer);
+        let stepped = unframing::step(state, bytes[i], buffer);
         let closing = stepped.closing;
         let next = stepped.line;
         let upto = i + 1;

@@ -8,9 +8,10 @@ use native.Mathlib.Omega.{arith}
 use lib.ListN.{length, take, drop, length-take, length-drop}
 use Rattle.loader.specs.Step.{told, refused}
 use Rattle.loader.specs.RunStep.{runStep, FeedsRun}
-use Rattle.loader.specs.declared.Loader.{Loader}
+use Rattle.loader_state.specs.declared.Loader.{Loader}
 use Rattle.loader.specs.declared.Answer.{Answer}
 use Rattle.loader.specs.declared.Answer.the-variants.{Taken, Dropped, Answered}
+use Rattle.unframing.specs.declared.Reason.{Reason}
 use Rattle.effects.specs.declared.Note.{Note}
 use Rattle.loader.specs.declared.RunFed.{RunFed}
 use Rattle.loader.proofs.Runs.{Counted, counted}
@@ -44,7 +45,7 @@ module _ {P : Type 0} (a : Answer) where
   pub on-taken : a ≡ Taken → (((n : ℕ) → told a ≡ refused n → ⊥) → P) → P
   on-taken e h = h (λ n q. let z : _≡_ {A = ℕ} 0 1 = cc in omega arith)
 
-  pub on-dropped : {stored : ℕ} → a ≡ Dropped stored → (((n : ℕ) → told a ≡ refused n → ⊥) → P) → P
+  pub on-dropped : {stored : ℕ} {reason : Reason} → a ≡ Dropped stored reason → (((n : ℕ) → told a ≡ refused n → ⊥) → P) → P
   on-dropped e h = h (λ n q. let z : _≡_ {A = ℕ} 0 1 = cc in omega arith)
 
   pub on-answered : {stored command error sent : ℕ} {note : Note} → a ≡ Answered stored command error sent note

@@ -27,7 +27,10 @@ fn place_after(answer: Answer, at: usize, taken: usize, upto: usize) -> usize
     match answer {
         Answer::Refused(_) => upto,
         Answer::Taken => at + taken,
-        Answer::Dropped { stored: _ } => at + taken,
+        Answer::Dropped {
+            stored: _,
+            reason: _,
+        } => at + taken,
         Answer::Answered {
             stored: _,
             command: _,

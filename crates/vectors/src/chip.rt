@@ -3,12 +3,13 @@
 use crate::calls::feed_from;
 use crate::names;
 use fields::word_at;
-use framing::Closing;
 use framing::Framed;
 use framing::LONGEST;
 use loader::Answer;
+use report::Written;
 use tables::part;
 use tables::put_byte;
+use unframing::Closing;
 
 // The most bytes of a field: the longest packet, framed, and more.
 pub const LONGEST_FIELD: usize = 2 * LONGEST + 2;
@@ -23,13 +24,14 @@ pub const GOT: usize = LONGEST_FIELD + FLASH_LENGTH;
 // The error of a call that does not answer: no command has it.
 const SILENT: u8 = 0xEE;
 
-// Of some calls: how many packets they closed, the bits of all their errors; of the last one, whether it did not answer, and how
-// many bytes it sent.
+// Of some calls: how many packets they closed, the bits of all their errors; of the last one, whether it did not answer, how many
+// bytes it sent, and all that it told.
 struct Said {
     closed: u8,
     errors: u8,
     silent: u8,
     sent: usize,
+    last: Answer,
 }
 
 // What is said after one more call.
@@ -40,18 +42,24 @@ fn joined(said: Said, answer: Answer) -> Said {
             errors: SILENT,
             silent: SILENT,
             sent: 0,
+            last: answer,
         },
         Answer::Taken => Said {
             closed: said.closed,
             errors: said.errors,
             silent: SILENT,
             sent: 0,
+            last: answer,
         },
-        Answer::Dropped { stored: _ } => Said {
+        Answer::Dropped {
+            stored: _,
+            reason: _,
+        } => Said {
             closed: std::num::wrapping_add_u8(said.closed, 1),
             errors: SILENT,
             silent: SILENT,
             sent: 0,
+            last: answer,
         },
         Answer::Answered {
             stored: _,
@@ -64,8 +72,17 @@ fn joined(said: Said, answer: Answer) -> Said {
             errors: said.errors | error,
             silent: 0,
             sent,
+            last: answer,
         },
     }
+}
+
+// The listing's line of a call, as of the first packet: none where it closes no packet.
+fn line_of(answer: Answer, got: &mut [u8]) -> usize {
+    let Written::Used(n) = report::line(1, answer, got, 0) else {
+        return 0;
+    };
+    n
 }
 
 // Keeps a loader's flash behind the front of the buffer.
@@ -85,6 +102,7 @@ fn run(bytes: &[u8], got: &mut [u8]) -> Said {
         errors: 0,
         silent: SILENT,
         sent: 0,
+        last: Answer::Taken,
     };
     let mut at: usize = 0;
     while at < bytes.len() {
@@ -98,27 +116,27 @@ fn run(bytes: &[u8], got: &mut [u8]) -> Said {
     said
 }
 
-// How many bytes a whole packet has.
-fn whole(closing: Closing) -> usize {
+// A packet that is closed: a whole one stands in the buffer already, and of a broken one its line is written there.
+fn closed_as(closing: Closing, got: &mut [u8]) -> usize {
     match closing {
         Closing::Open => 0,
         Closing::Whole(n) => n,
-        Closing::Broken(_) => 0,
+        Closing::Broken(stored, reason) => line_of(Answer::Dropped { stored, reason }, got),
     }
 }
 
-// The packet that the last of some line bytes closes.
+// The packet that the last of some line bytes closes, or why it is broken.
 pub fn unframe(bytes: &[u8], got: &mut [u8]) -> usize {
-    let mut line = framing::new();
+    let mut line = unframing::new();
     let mut closing = Closing::Open;
     let mut i: usize = 0;
     while i < bytes.len() {
-        let stepped = framing::step(line, bytes[i], got);
+        let stepped = unframing::step(line, bytes[i], got);
         line = stepped.line;
         closing = stepped.closing;
         i += 1;
     }
-    whole(closing)
+    closed_as(closing, got)
 }
 
 // A packet, framed.
@@ -132,9 +150,11 @@ pub fn frame(bytes: &[u8], got: &mut [u8]) -> usize {
 // A loader that is fed.
 pub fn on_loader(operation: u8, input: &[u8], got: &mut [u8]) -> usize {
     let said = run(input, got);
+    let last = said.last;
     match operation {
         names::ANSWER => said.sent,
         names::CLOSES => put_byte(said.closed, got),
+        names::LINE => line_of(last, got),
         _ => put_byte(said.errors | said.silent, got),
     }
 }

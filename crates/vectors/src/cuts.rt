@@ -6,16 +6,17 @@ use crate::chip::FLASH_LENGTH;
 use crate::chip::WORDS;
 use fields::bytes_of;
 use framing::LONGEST;
-use framing::Phase;
 use loader::Answer;
 use loader::LONGEST_ANSWER;
 use loader::Loader;
 use loader::Note;
+use loader::Reason;
 use tables::part;
+use unframing::Phase;
 
 // The front of the buffer: what the calls told, the record and the answer buffer. A field has 8,242 bytes; the shortest packet that is
-// answered has nine of them, and takes at most 46 bytes here, and a dropped one has two, and takes 8.
-const TOLD: usize = 49152;
+// answered has nine of them, and takes at most 46 bytes here, and a dropped one has two, and takes 12.
+const TOLD: usize = 53248;
 
 const FLASH_AT: usize = TOLD + LONGEST;
 
@@ -71,6 +72,16 @@ fn note_address(note: Note) -> u32 {
     }
 }
 
+fn reason_number(reason: Reason) -> u32 {
+    match reason {
+        Reason::BadEscape => 0,
+        Reason::CutEscape => 1,
+        Reason::TooLong => 2,
+        Reason::TooShort => 3,
+        Reason::WrongDirection => 4,
+    }
+}
+
 // Writes what a call told from a place on, unless it only took bytes; the place behind it.
 fn put_answer(
     left: &mut [u8; LEFT],
@@ -84,8 +95,8 @@ fn put_answer(
             put_words(left, at, &numbers)
         }
         Answer::Taken => at,
-        Answer::Dropped { stored } => {
-            let numbers = [2u32, (stored % 65536) as u32];
+        Answer::Dropped { stored, reason } => {
+            let numbers = [2u32, (stored % 65536) as u32, reason_number(reason)];
             put_words(left, at, &numbers)
         }
         Answer::Answered {

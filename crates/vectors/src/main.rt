@@ -11,12 +11,17 @@ use tables::field;
 use tables::part;
 use tables::past;
 
+// A table has fewer bytes. A row of a long packet has more than 8,240 of them.
+const TABLE: usize = 131072;
+
 // What an operation gives, at the front of a buffer; how many bytes it is.
 fn outcome(operation: u8, input: &[u8], got: &mut [u8]) -> usize {
     match operation {
         names::FRAME => chip::frame(input, got),
         names::UNFRAME => chip::unframe(input, got),
-        names::ANSWER | names::CLOSES | names::ERRORS => chip::on_loader(operation, input, got),
+        names::ANSWER | names::CLOSES | names::ERRORS | names::LINE => {
+            chip::on_loader(operation, input, got)
+        }
         names::FLASH => chip::flash_at(input, got),
         names::CUTS => tables::put_word(cuts::agreeing(input), got),
         names::ERASED => tables::put_byte(chip::erased(input, got), got),
@@ -66,7 +71,7 @@ fn run_table(text: &[u8]) {
 }
 
 fn main() {
-    let mut text = io::large_buffer();
+    let mut text = [0u8; TABLE];
     let n = io::read_full(STDIN_FILENO, &mut text);
     if n == text.len() {
         tables::show(b"", b"TABLE TOO LONG", b"");

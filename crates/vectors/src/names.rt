@@ -4,9 +4,9 @@ use tables::part;
 use tables::past;
 
 // Each name has the number of its place here.
-const NAMES: [u8; 100] = *b"\
+const NAMES: [u8; 105] = *b"\
     checksum\tcommand\tsize\tvalue\taddress\tmerge\tpack\t\
-    frame\tunframe\tanswer\tcloses\terrors\t\
+    frame\tunframe\tanswer\tcloses\terrors\tline\t\
     flash\terased\tcuts\t";
 
 pub const CHECKSUM: u8 = 0;
@@ -33,11 +33,13 @@ pub const CLOSES: u8 = 10;
 
 pub const ERRORS: u8 = 11;
 
-pub const FLASH: u8 = 12;
+pub const LINE: u8 = 12;
 
-pub const ERASED: u8 = 13;
+pub const FLASH: u8 = 13;
 
-pub const CUTS: u8 = 14;
+pub const ERASED: u8 = 14;
+
+pub const CUTS: u8 = 15;
 
 // No operation has it.
 pub const UNKNOWN: u8 = 255;
@@ -47,7 +49,7 @@ pub fn number_of(name: &[u8]) -> u8 {
     let names = NAMES;
     let mut number: u8 = 0;
     let mut at: usize = 0;
-    while at < 100 {
+    while at < 105 {
         let next = past(&names, at, TAB);
         if lists::same(name, part(&names, at, next)) {
             return number;

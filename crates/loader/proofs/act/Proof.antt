@@ -12,8 +12,11 @@ enum-known-closed c = search needs
 enum-told : tie.Need-enum-told
 enum-told c = search needs
 
+reason-of-requires : tie.Need-reason-of-requires
+reason-of-requires c κs = search needs
+
 returns : tie.Need-returns
-returns c = acts-dropped _ _ _ _ _ _ (c .before .before .read-packet .ensures) (c .enum-told .given .1)
+returns c = acts-dropped _ _ _ _ _ _ (c .before .before .before .read-packet .ensures) _ (c .reason-of .ensures)
 
 obey-requires : tie.Need-obey-requires
 obey-requires c κs = search needs
@@ -45,6 +48,7 @@ act-spec =
     read-packet-requires
     enum-known-closed
     enum-told
+    reason-of-requires
     returns
     obey-requires
     reply-requires

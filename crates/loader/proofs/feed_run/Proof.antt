@@ -1,6 +1,6 @@
 use mathlib.Core.Path.{sym, _∙_}
 use lib.Seq.{length-take-le}
-use Rattle.loader.proofs.LetPass.{let-pass, for-answer}
+use Rattle.loader_state.proofs.LetPass.{let-pass, for-answer}
 use Rattle.loader.proofs.Calls.{refused, bytes-taken, packet-broken, whole-fits, packet-acted}
 use borrow.Author.Needs.{needs}
 use Rattle.loader.proofs.feed_run.Statement.{statement}
@@ -80,7 +80,7 @@ same-length-6 c = search needs
 returns-4 : tie.Need-returns-4
 returns-4 c =
     let i = c .before .before .before .before .before .before .before .before .before in
-    packet-broken _ _ _ _ _ _ _ (i .before .refusal-of .ensures) (i .if1 .left) _ _ (c .before .before .before .before .before .before .run .ensures) _ (c .before .closing2 .given .1)
+    packet-broken _ _ _ _ _ _ _ (i .before .refusal-of .ensures) (i .if1 .left) _ _ (c .before .before .before .before .before .before .run .ensures) _ _ (c .before .closing2 .given .1)
 
 pub feed-run-spec : {M : Type 1} → statement M
 feed-run-spec =

@@ -1,4 +1,4 @@
-use Rattle.framing.proofs.Theorems.{cut-of-frame}
+use Rattle.packets.proofs.Theorems.{cut-of-frame}
 use Rattle.promises.proofs.cut_of_frame.Statement.{statement}
 use Rattle.promises.proofs.cut_of_frame.Tie as tie
 

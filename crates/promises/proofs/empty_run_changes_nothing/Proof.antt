@@ -1,4 +1,4 @@
-use Rattle.loader.proofs.Theorems.{empty-run-changes-nothing}
+use Rattle.claims.proofs.ChangesNothing.{empty-run-changes-nothing}
 use Rattle.promises.proofs.empty_run_changes_nothing.Statement.{statement}
 use Rattle.promises.proofs.empty_run_changes_nothing.Tie as tie
 

@@ -1,4 +1,4 @@
-use Rattle.loader.proofs.Theorems.{failed-changes-nothing}
+use Rattle.claims.proofs.ChangesNothing.{failed-changes-nothing}
 use Rattle.promises.proofs.failed_changes_nothing.Statement.{statement}
 use Rattle.promises.proofs.failed_changes_nothing.Tie as tie
 

@@ -1,4 +1,4 @@
-use Rattle.framing.proofs.Theorems.{frame-comes-back}
+use Rattle.packets.proofs.Theorems.{frame-comes-back}
 use Rattle.promises.proofs.frame_comes_back.Statement.{statement}
 use Rattle.promises.proofs.frame_comes_back.Tie as tie
 

@@ -1,4 +1,4 @@
-use Rattle.loader.proofs.Theorems.{refused-changes-nothing}
+use Rattle.claims.proofs.ChangesNothing.{refused-changes-nothing}
 use Rattle.promises.proofs.refused_changes_nothing.Statement.{statement}
 use Rattle.promises.proofs.refused_changes_nothing.Tie as tie
 

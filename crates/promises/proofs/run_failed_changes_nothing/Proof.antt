@@ -1,4 +1,4 @@
-use Rattle.loader.proofs.Theorems.{run-failed-changes-nothing}
+use Rattle.claims.proofs.ChangesNothing.{run-failed-changes-nothing}
 use Rattle.promises.proofs.run_failed_changes_nothing.Statement.{statement}
 use Rattle.promises.proofs.run_failed_changes_nothing.Tie as tie
 

@@ -1,4 +1,4 @@
-use Rattle.loader.proofs.Theorems.{run-refused-changes-nothing}
+use Rattle.claims.proofs.ChangesNothing.{run-refused-changes-nothing}
 use Rattle.promises.proofs.run_refused_changes_nothing.Statement.{statement}
 use Rattle.promises.proofs.run_refused_changes_nothing.Tie as tie
 

@@ -1,4 +1,4 @@
-use Rattle.framing.proofs.Theorems.{steps-are-cut}
+use Rattle.packets.proofs.Theorems.{steps-are-cut}
 use Rattle.promises.proofs.steps_are_cut.Statement.{statement}
 use Rattle.promises.proofs.steps_are_cut.Tie as tie
 

@@ -1,4 +1,4 @@
-use Rattle.framing.specs.Packets.{header}
+use Rattle.packets.specs.Packets.{header}
 use Rattle.commands.specs.Header.{command}
 use mathlib.Core.Path.{refl}
 use native.Mathlib.Omega.{arith}
@@ -10,7 +10,7 @@ use Rattle.loader.proofs.header.read_packet.Tie as tie
 
 returns : tie.Need-returns
 unfolding header
-returns c = rw (lt-leb 8 (length (c .before .args .packet .now)) (c .if1 .taken)) refl
+returns c = rw (lt-leb 8 (length (c .before .args .packet .now)) (omega arith)) refl
 
 shared-slice-read-if2 : tie.Need-shared-slice-read-if2
 shared-slice-read-if2 c = search needs
@@ -21,8 +21,8 @@ returns-2 c =
     let packet = c .before .before .before .args .packet .now in
     rw (le-leb 8 (length packet) (omega arith), ne-eqb (getD packet 0 0) 0 (c .if2 .taken)) refl
 
-shared-slice-read-t5 : tie.Need-shared-slice-read-t5
-shared-slice-read-t5 c = search needs
+shared-slice-read-t6 : tie.Need-shared-slice-read-t6
+shared-slice-read-t6 c = search needs
 
 returns-3 : tie.Need-returns-3
 unfolding header command
@@ -32,4 +32,4 @@ returns-3 c =
 
 pub read-packet-spec : {M : Type 1} → statement M
 read-packet-spec =
-    tie.close (tie.spec returns shared-slice-read-if2 returns-2 shared-slice-read-t5 returns-3)
+    tie.close (tie.spec returns shared-slice-read-if2 returns-2 shared-slice-read-t6 returns-3)

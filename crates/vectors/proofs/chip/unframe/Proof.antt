@@ -34,8 +34,8 @@ loop-less c = omega arith
 loop-again : tie.Need-loop-again Inv-loop μ-loop
 loop-again c = search needs
 
-whole-requires : tie.Need-whole-requires Inv-loop μ-loop
-whole-requires c κs = tt
+closed-as-requires : tie.Need-closed-as-requires Inv-loop μ-loop
+closed-as-requires c κs = tt
 
 same-length : tie.Need-same-length Inv-loop μ-loop
 same-length c = search needs
@@ -56,6 +56,6 @@ unframe-spec =
     add-i
     loop-less
     loop-again
-    whole-requires
+    closed-as-requires
     same-length
     returns)

@@ -1,0 +1,77 @@
+// The loader's record, and refusals 1 to 5.
+use answers::LONGEST_ANSWER;
+use begins::Lengths;
+use begins::SECTOR;
+use framing::LONGEST;
+use lists::check;
+use sessions::Session;
+use sessions::session_good;
+use unframing::Line;
+ghost use mathlib.Core.Path.{_≡_};
+ghost use Rattle.loader_state.specs.Record.{freshLoader};
+ghost use Rattle.loader_state.specs.Refusals.{flashLength, wordCount, recordGood, refusal};
+
+// The loader's record. The caller keeps what each call hands back, and hands it to the next call.
+pub struct Loader {
+    pub line: Line,
+    pub session: Session,
+    pub attach: u32,
+}
+
+// The record that a start begins with: for the first call.
+pub fn new() -> Loader
+    ensures { λ r. ⌜ r ≡ freshLoader ⌝ }
+{
+    Loader {
+        line: unframing::new(),
+        session: Session::Closed,
+        attach: 0,
+    }
+}
+
+// Refusal 3: flash is a multiple of a sector, up to 4 MiB.
+fn flash_length_good(n: usize) -> bool
+    ensures { λ r. ⌜ r ≡ flashLength n ⌝ }
+{
+    (1 <= n) & ((n as u64 % SECTOR == 0) & (n <= 4194304))
+}
+
+// Refusal 4: 1 to 16,384 words.
+fn word_count_good(n: usize) -> bool
+    ensures { λ r. ⌜ r ≡ wordCount n ⌝ }
+{
+    (1 <= n) & (n <= 16384)
+}
+
+// Refusal 5: the bytes held, the session for these lengths, and the attach word.
+fn record_good(lengths: Lengths, loader: Loader) -> bool
+    ensures { λ r. ⌜ r ≡ recordGood lengths loader ⌝ }
+{
+    let line = loader.line;
+    let session = loader.session;
+    (line.held <= LONGEST) & (session_good(lengths, session) & fields::attach_good(loader.attach))
+}
+
+// The number that a call is refused with, by its record and the lengths of its buffers; 0 where it is not.
+pub fn refusal_of(loader: Loader, packet: usize, answer: usize, flash: usize, words: usize) -> u8
+    ensures { λ r. ⌜ r ≡ refusal loader (record { packet = packet; answer = answer; flash = flash; words = words }) ⌝ }
+{
+    let lengths = Lengths { flash, words };
+    check(
+        LONGEST <= packet,
+        1,
+        check(
+            LONGEST_ANSWER <= answer,
+            2,
+            check(
+                flash_length_good(flash),
+                3,
+                check(
+                    word_count_good(words),
+                    4,
+                    check(record_good(lengths, loader), 5, 0),
+                ),
+            ),
+        ),
+    )
+}

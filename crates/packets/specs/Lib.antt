@@ -1,0 +1,4 @@
+pub mod Packets
+pub mod Run
+pub mod WithoutReasons
+pub mod Theorems
