@@ -12,7 +12,7 @@ letters TooLong = 76 ∷ 79 ∷ 78 ∷ 71 ∷ []
 letters TooShort = 83 ∷ 72 ∷ 79 ∷ 82 ∷ 84 ∷ []
 letters WrongDirection = 68 ∷ 73 ∷ 82 ∷ []
 
--- what a closed packet holds: all its bytes, or why it cannot be had
+-- what a closed packet holds: all its bytes, or why they cannot be had
 pub data Contents : Type 0 where
   whole : List ℕ → Contents
   broken : Reason → Contents
