@@ -1,6 +1,8 @@
 -- The starred cases: equations of numbers and lists compute, and the others follow from the laws of a packet, a load and a link call.
-use mathlib.Core.Path.{refl, ap, _∙_}
-use mathlib.Core.Bool.{and-false}
+use Prim.Native.Nat.{ℕ}
+use mathlib.Core.Path.{_≡_, refl, ap, _∙_}
+use mathlib.Core.List.{List}
+use mathlib.Core.Bool.{true, false, and-false}
 use native.Mathlib.Omega.{arith}
 use Rattle.lists.specs.Bytes.{sameBytes, allAre}
 use Rattle.lists.specs.Checks.{first}
@@ -18,19 +20,30 @@ use Rattle.effects.specs.Effects.{effect}
 use Rattle.effects.specs.Handle.{carriedOut, failed, handle}
 use Rattle.effects.specs.Notes.{no-order}
 use Rattle.link_state.specs.Clock.{silence, stillDead}
-use Rattle.link_state.specs.Link.{withDead}
+use Rattle.link_state.specs.Link.{fresh, withDead}
+use Rattle.link_state.specs.declared.Link.{Link}
+use Rattle.link.specs.Step.{pollStep}
 use Rattle.link_frames.specs.Frames as frames
 use Rattle.cases.specs.Packets.{syncPacket, beginPacket}
+use Rattle.cases.specs.LinkCalls.{AliveAt, LostAt}
 use Rattle.cases.specs.Cases.{Starred}
 use Rattle.cases.proofs.Answers.{answered-with}
 use Rattle.cases.proofs.Blocks.{five-loaded}
-use Rattle.cases.proofs.Linked.{polled, frame-sent, baud-read}
+use Rattle.cases.proofs.Linked.{Polled, polled, polled-lost, framed-polled, held-polled, frame-sent, baud-read}
+
+still-alive : {l : Link} {buffer : List ℕ} → Polled l buffer 0xFFFFFFFF → AliveAt l 0x000000F8 buffer
+unfolding silence stillDead
+still-alive {l} {buffer} p = record { untold = polled-lost l buffer _ _ p; record-stays = polled l buffer _ _ p ∙ ap (withDead l) (and-false (l .dead)) }
+
+lost-now : {l : Link} {buffer : List ℕ} → Polled l buffer 0xFFFFFFFF → LostAt l 0x000000F9 buffer
+unfolding silence
+lost-now {l} {buffer} p = record { told = polled-lost l buffer _ _ p; in-start = polled l buffer _ _ p }
 
 pub starred : Starred
 unfolding
     checksum xored frames.frameOf framed escaped merged mergedBits packingOf pinsGood pinsWord pinGood pinField
     handle carriedOut failed errorOf checks plainChecks first kind command shaped sized words.word words.half header
-    syncRule sameBytes allAre effect beginOf flashRule counted roundUp silence stillDead
+    syncRule sameBytes allAre effect beginOf flashRule counted roundUp
 starred = record {
   case-1 = refl;
   case-2 = refl;
@@ -49,7 +62,9 @@ starred = record {
   case-12-frame = refl;
   case-12-sent = λ l tick buffer h. frame-sent l _ tick buffer h;
   case-14-249 = refl;
-  case-14-alive = λ l buffer p. polled l buffer _ _ p ∙ ap (withDead l) (and-false (l .dead));
+  case-14-alive = λ l b buffer k. still-alive (framed-polled l b _ buffer k);
   case-14-250 = refl;
-  case-14-start = λ l buffer p. polled l buffer _ _ p;
+  case-14-start = λ l b buffer k. lost-now (framed-polled l b _ buffer k);
+  case-14-held-alive = λ l b buffer k h tick e. still-alive (held-polled l b _ buffer k h tick e);
+  case-14-held-start = λ l b buffer k h tick e. lost-now (held-polled l b _ buffer k h tick e);
 }

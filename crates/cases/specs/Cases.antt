@@ -12,14 +12,14 @@ use Rattle.framing.specs.Frame.{framed}
 use Rattle.begins.specs.Begin.{flashRule}
 use Rattle.link_frames.specs.Frames.{baudRate, dataFrame}
 use Rattle.link_state.specs.Clock.{elapsed}
-use Rattle.link_state.specs.Link.{fresh, inBaud, inOpen, withDead}
+use Rattle.link_state.specs.Link.{inBaud, inOpen}
 use Rattle.link_state.specs.Silence.{checked}
 use Rattle.link_state.specs.Refusals.{shortestBuffer, sendChecks}
 use Rattle.link.specs.Answers.{sentBy}
-use Rattle.link.specs.Step.{pollStep, sendStep}
+use Rattle.link.specs.Step.{byteStep, sendStep}
 use Rattle.link_state.specs.declared.Link.{Link}
 use Rattle.cases.specs.Feeding.{Lending, begun, fed, framedAll, sends}
-use Rattle.cases.specs.LinkCalls.{receives, Polled}
+use Rattle.cases.specs.LinkCalls.{receives, Completes, AliveAt, LostAt}
 use Rattle.cases.specs.Packets.{syncPacket, beginPacket, Block, dataPacket}
 
 -- "S 5000, n 5, b 1024, offset 8192", and its five blocks with their data
@@ -28,7 +28,7 @@ fiveBlocks d₀ d₁ d₂ d₃ d₄ =
     beginPacket 5000 5 1024 8192
     ∷ dataPacket 0 d₀ ∷ dataPacket 1 d₁ ∷ dataPacket 2 d₂ ∷ dataPacket 3 d₃ ∷ dataPacket 4 d₄ ∷ []
 
--- The loader's cases are said of a fresh loader with any buffers that refusals 1 to 4 let pass, whatever they hold; 12 and 14 of any link record and buffer that are not refused.
+-- The loader's cases are said of a fresh loader with any buffers that refusals 1 to 4 let pass, whatever they hold; 12 and 14 of any link record and buffer with which the call is not refused.
 pub record Starred : Type 0 where
   -- 1. "Checksum of no data is EF."
   pub case-1 : checksum [] ≡ 0xEF
@@ -77,10 +77,16 @@ pub record Starred : Type 0 where
   pub case-12-sent :
       (l : Link) (tick : ℕ) (buffer : List ℕ) → first (sendChecks l (checked l tick) 2 (length buffer)) ≡ 0
       → sentBy (sendStep l (0x48 ∷ 0x49 ∷ []) tick buffer) ≡ 0x05 ∷ 0x02 ∷ 0x48 ∷ 0x49 ∷ 0x06 ∷ []
-  -- 14. "Silence: tick FFFFFFFF then 000000F8 hex is 249 ms, alive": all stays but dead time, which is over
+  -- 14. "Silence: tick FFFFFFFF then 000000F8 hex is 249 ms, alive; F9 is 250, Start", which "reads of frames" (document 02, Three): FFFFFFFF is the tick of
+  -- the last byte of a frame
   pub case-14-249 : elapsed 0xFFFFFFFF 0x000000F8 ≡ 249
-  pub case-14-alive :
-      (l : Link) (buffer : List ℕ) → Polled l buffer 0xFFFFFFFF → pollStep l 0x000000F8 buffer .link ≡ withDead l false
-  -- "F9 is 250, Start": the fresh record
+  pub case-14-alive : (l : Link) (b : ℕ) (buffer : List ℕ) → Completes l b 0xFFFFFFFF buffer → AliveAt (byteStep l b 0xFFFFFFFF buffer .link) 0x000000F8 buffer
   pub case-14-250 : elapsed 0xFFFFFFFF 0x000000F9 ≡ 250
-  pub case-14-start : (l : Link) (buffer : List ℕ) → Polled l buffer 0xFFFFFFFF → pollStep l 0x000000F9 buffer .link ≡ fresh
+  pub case-14-start : (l : Link) (b : ℕ) (buffer : List ℕ) → Completes l b 0xFFFFFFFF buffer → LostAt (byteStep l b 0xFFFFFFFF buffer .link) 0x000000F9 buffer
+  -- and a byte h that comes in between, at whatever tick, and is held changes neither
+  pub case-14-held-alive :
+      (l : Link) (b : ℕ) (buffer : List ℕ) → Completes l b 0xFFFFFFFF buffer
+      → (h tick : ℕ) → let l′ : Link = byteStep (byteStep l b 0xFFFFFFFF buffer .link) h tick buffer .link in l′ .held ≡ 1 → AliveAt l′ 0x000000F8 buffer
+  pub case-14-held-start :
+      (l : Link) (b : ℕ) (buffer : List ℕ) → Completes l b 0xFFFFFFFF buffer
+      → (h tick : ℕ) → let l′ : Link = byteStep (byteStep l b 0xFFFFFFFF buffer .link) h tick buffer .link in l′ .held ≡ 1 → LostAt l′ 0x000000F9 buffer

@@ -1,8 +1,8 @@
 -- The ways of a byte that is heard, each in plain variables.
 use Prim.Native.Nat.{ℕ, _+_, _-_, _<_}
 use mathlib.Core.Path.{_≡_, sym, _∙_}
-use mathlib.Core.List.{List, [], _∷_, _++_}
-use mathlib.Core.Bool.{Bool, true, false}
+use mathlib.Core.List.{[], _∷_, _++_}
+use mathlib.Core.Bool.{true, false}
 use native.Mathlib.Omega.{arith}
 use lib.ListN.{length, take, drop, getD}
 use borrow.Author.Tests.{eq-eqb, ne-eqb}
@@ -21,6 +21,11 @@ use Rattle.link_turns.specs.Turns.{quiet, broken, baudFrame, openFrame}
 use Rattle.link.specs.Hearing.{wholeFrame, heard}
 use Rattle.link.proofs.Padded.{data-padded}
 use Rattle.link.proofs.Kept.{held-kept, zero-kept, length-kept}
+
+pub space-left : (l : Link) → length (l .frame) ≡ mostContents → holderGood (l .held) (store l) ≡ true
+    → lacksSum (l .held) (l .kind) (getD (l .frame) 0 0) ≡ false → l .held < mostHeld
+space-left l f good e = let h = held-good (l .held) (l .kind) (l .frame) good in
+    begun (l .held) (l .kind) (getD (l .frame) 0 0) (sym (begins-held (l .held) (l .kind) (l .frame) f (h .most) (h .zeros)) ∙ h .start) e
 
 module _ (l : Link) (tick : ℕ) (f : length (l .frame) ≡ mostContents) (good : holderGood (l .held) (store l) ≡ true) where
   at-held : (i : ℕ) → getD (heldOf l) i 0 ≡ getD (store l) i 0
@@ -55,19 +60,18 @@ module _ (l : Link) (tick : ℕ) (f : length (l .frame) ≡ mostContents) (good 
       heard-damaged q = rw (all-but, sum-is, ne-eqb byte _ q)
 
     module _ (e : lacksSum (l .held) (l .kind) (getD (l .frame) 0 0) ≡ false) where
-      pub space-left : l .held < mostHeld
-      space-left = let h = held-good (l .held) (l .kind) (l .frame) good in
-          begun (l .held) (l .kind) (getD (l .frame) 0 0) (sym (begins-held (l .held) (l .kind) (l .frame) f (h .most) (h .zeros)) ∙ h .start) e
+      left : l .held < mostHeld
+      left = space-left l f good e
 
       not-all : allButSum (heldOf l) ≡ false
       not-all = let h = held-good (l .held) (l .kind) (l .frame) good in lacks-held (l .held) (l .kind) (l .frame) f (h .most) (h .zeros) ∙ e
 
-      start-kept : goodStart (heldOf l ++ (byte ∷ [])) ≡ begins (kept l byte tick .held) (kept l byte tick .kind) (getD (kept l byte tick .frame) 0 0)
+      start-kept : goodStart (heldOf l ++ (byte ∷ [])) ≡ begins (kept l byte .held) (kept l byte .kind) (getD (kept l byte .frame) 0 0)
       unfolding kept
       start-kept = let h = held-good (l .held) (l .kind) (l .frame) good in
-          rw (← (held-kept l byte tick f space-left)) (begins-held (l .held + 1) (kept l byte tick .kind) (kept l byte tick .frame) (length-kept l byte tick f space-left) (omega (arith, space-left)) (zero-kept l byte tick f space-left (h .zeros)))
+          rw (← (held-kept l byte f left)) (begins-held (l .held + 1) (kept l byte .kind) (kept l byte .frame) (length-kept l byte f left) (omega (arith, left)) (zero-kept l byte f left (h .zeros)))
 
-      module _ (l′ : Link) (k : l′ ≡ kept l byte tick) where
+      module _ (l′ : Link) (k : l′ ≡ kept l byte) where
         pub heard-more : begins (l′ .held) (l′ .kind) (getD (l′ .frame) 0 0) ≡ true → heard l byte tick ≡ quiet l′
         unfolding heard reading
         heard-more q = rw (not-all, start-kept, ← k, q)

@@ -23,7 +23,8 @@ ghost use Rattle.link.specs.Step.{pullStep, byteStep, pollStep, sendStep
 
 // What a call tells, in the order in which the caller acts on it.
 pub struct Told {
-    // The link was lost to silence before this call did anything else: the line goes back to 9600, and outstanding data is gone.
+    // The link was lost to silence before this call did anything else: the line goes back to 9600, and outstanding data and the bytes of
+    // an unfinished frame are gone.
     pub lost: bool,
     // So many bytes, the first of the answer buffer, are to be sent; 0 where there is nothing to send.
     pub sent: usize,
@@ -40,14 +41,13 @@ pub struct Next {
     pub told: Told,
 }
 
-// The record with one byte more held.
-fn keep(link: Link, byte: u8, tick: u32) -> Link
+// The record with one byte more held, which is no activity.
+fn keep(link: Link, byte: u8) -> Link
     requires { ⌜ link .held < mostHeld ⌝ }
-    ensures { λ r. ⌜ r ≡ kept link byte tick ⌝ }
+    ensures { λ r. ⌜ r ≡ kept link byte ⌝ }
 {
     let held = link.held;
     let mut next = link;
-    next.last = tick;
     next.held = held + 1;
     if held == 0 {
         next.kind = byte;
@@ -88,7 +88,7 @@ fn hear(link: Link, byte: u8, tick: u32) -> Turn
         }
         return link_turns::break_off();
     }
-    let next = keep(link, byte, tick);
+    let next = keep(link, byte);
     if link_frames::is_begun(next.held, next.kind, next.frame[0]) {
         return link_turns::stay(next);
     }
@@ -164,7 +164,8 @@ pub fn pull(link: Link, tick: u32, buffer: &mut [u8]) -> Next
     refuse(link, number)
 }
 
-// A byte was received, at this tick: to be called for each byte, in their order.
+// A byte was received, at this tick: to be called for each byte, in their order. A frame whose last byte comes 250 ms or more after the
+// last activity is lost with the link.
 pub fn byte(link: Link, byte: u8, tick: u32, buffer: &mut [u8]) -> Next
     ensures { λ r. ⌜ came (r .link) (r .told) (now (buffer .exit)) ≡ byteStep link byte tick (now (buffer .entry)) ⌝ }
 {
@@ -181,7 +182,8 @@ pub fn byte(link: Link, byte: u8, tick: u32, buffer: &mut [u8]) -> Next
     refuse(link, number)
 }
 
-// Time has passed. Silence is found by a call only: where no byte comes, this is to be called, well within each 250 ms.
+// Time has passed. Silence, 250 ms without activity, is found by a call only, and a send does not tell it: where no byte comes, this is
+// to be called, well within each 250 ms.
 pub fn poll(link: Link, tick: u32, buffer: &mut [u8]) -> Next
     ensures { λ r. ⌜ came (r .link) (r .told) (now (buffer .exit)) ≡ pollStep link tick (now (buffer .entry)) ⌝ }
 {

@@ -2,18 +2,18 @@
 use Prim.Native.Nat.{ℕ, _+_, _<_}
 use mathlib.Core.Path.{_≡_, refl, sym}
 use mathlib.Core.List.{List, [], _∷_}
-use mathlib.Core.Bool.{Bool, true, false, cond, not}
+use mathlib.Core.Bool.{Bool, true, false, cond}
 use native.Mathlib.Omega.{arith}
 use lib.ListN.{length}
-use lib.Dec.{eqb, leb}
-use borrow.Author.Tests.{eqb-true, le-leb}
+use lib.Dec.{leb}
+use borrow.Author.Tests.{le-leb}
 use Rattle.lists.specs.Checks.{first}
-use Rattle.lists.proofs.Tests.{absurd-test, both}
+use Rattle.lists.proofs.Tests.{absurd-test}
 use Rattle.link_frames.specs.Frames.{mostHeld}
 use Rattle.link_state.specs.Clock.{stillDead}
-use Rattle.link_state.specs.Link.{firstRate, fresh, inBaud, inOpen, renewed, kept, withDead, withOutstanding}
+use Rattle.link_state.specs.Link.{fresh, inBaud, inOpen, renewed, kept, withDead, withOutstanding}
 use Rattle.link_state.specs.Silence.{checked}
-use Rattle.link_state.specs.Sound.{fitsPhase, sound}
+use Rattle.link_state.specs.Sound.{sound}
 use Rattle.link_state.specs.Refusals.{shortestBuffer, checks}
 use Rattle.link_state.proofs.Sound.{held-good, checks-passed}
 use Rattle.link_state.specs.declared.Link.{Link}
@@ -26,22 +26,18 @@ use Rattle.link_claims.specs.Calls.{Call, pull, byte, poll, send, step}
 use Rattle.link_claims.specs.Refusals.{tableOf, refusalOf}
 use Rattle.link_claims.specs.Decides.{brings, bytesIn, Empties, now, later, Decides}
 use Rattle.link_claims.proofs.Ways.{by-refusal, by-checked, by-pulled, Ways, ways-received}
-use Rattle.link_claims.proofs.Sound.{Parts, parts, whole-again, parts-dead, parts-step}
+use Rattle.link_claims.proofs.Sound.{Parts, parts, whole-again, start-empty, parts-dead, parts-step}
 
 -- the record after a call that brings n bytes: nothing is held, or what was held and they are
 data Next (n : ℕ) (l l′ : Link) : Type 0 where
   empty : l′ .held ≡ 0 → Next n l l′
   longer : l′ .held ≡ l .held + n → l′ .dead ≡ false → Next n l l′
 
-start-empty : (p : Phase) (d r o : Bool) (rate n : ℕ) → listens p false ≡ false → fitsPhase p d r o rate n ≡ true → n ≡ 0
-unfolding fitsPhase listens
-start-empty Start d r o rate n q e =
-    let a = both (not d) _ e in
-    let b = both (not r) _ (a .1) in
-    let c = both (not o) _ (b .1) in
-    eqb-true n 0 (both (eqb rate firstRate) (eqb n 0) (c .1) .1)
-start-empty Baud d r o rate n q e = absurd-test (sym q)
-start-empty Open d r o rate n q e = absurd-test (sym q)
+deaf-start : (p : Phase) → listens p false ≡ false → p ≡ Start
+unfolding listens
+deaf-start Start q = refl
+deaf-start Baud q = absurd-test (sym q)
+deaf-start Open q = absurd-test (sym q)
 
 not-dead : (d : Bool) (last tick : ℕ) → d ≡ false → stillDead d last tick ≡ false
 unfolding stillDead
@@ -68,7 +64,7 @@ module _ (l : Link) (p : Parts l) (d : l .dead ≡ false) (tick : ℕ) where
   unfolding renewed inOpen
   next-ways =
       record {
-        unread = empty refl;
+        unread = λ _. empty refl;
         opens = λ rate e. empty refl;
         off-list = empty refl;
         breaks = empty fresh-empty;
@@ -79,14 +75,14 @@ module _ (l : Link) (p : Parts l) (d : l .dead ≡ false) (tick : ℕ) where
         hands = λ count bytes _. empty refl;
       }
 
-  next-kept : (b : ℕ) → Next 1 l (kept l b tick)
+  next-kept : (b : ℕ) → Next 1 l (kept l b)
   unfolding kept
   next-kept b = longer refl d
 
   next-received : (b : ℕ) → Next 1 l (received l b tick .link)
   next-received b =
       ways-received (λ m n e. Next 1 l (m .link)) l b tick
-      (λ e. empty (start-empty (l .phase) (l .dead) (l .rpc) (l .outstanding) (l .rate) (l .held) (rw d at e) (p .phase))) (λ _ _. next-kept b) (λ _. next-ways)
+      (λ e. empty (start-empty l p (deaf-start (l .phase) (rw d at e)))) (λ _ _. next-kept b) (λ _. next-ways)
 
 module _ (l : Link) (p : Parts l) (d : l .dead ≡ false) (tick : ℕ) where
   next-checked : Next 0 l (checked l tick)

@@ -26,7 +26,7 @@ use Rattle.link_claims.proofs.Ways.{moveOf, by-refusal}
 use Rattle.link_claims.proofs.Sound.{tests}
 use Rattle.link_claims.proofs.Outcomes.{status-at, clean-none, Outcome, fails, breaks, goes, outcome, not-lost}
 
-passed-sound : (l : Link) (c : Call) → refusalOf l c ≡ 0 → sound l ≡ true
+pub passed-sound : (l : Link) (c : Call) → refusalOf l c ≡ 0 → sound l ≡ true
 unfolding refusalOf tableOf checks sendChecks
 passed-sound l (pull tick buffer) e = first-passed _ refl e .0
 passed-sound l (byte b tick buffer) e = first-passed _ refl e .0
@@ -58,7 +58,7 @@ none-front : (n : ℕ) (l : Link) (buffer : List ℕ) → [] ≡ sentBy (refusin
 unfolding refusing
 none-front n l buffer = refl
 
-sends-front : (gone : Bool) (m : Move) (buffer : List ℕ) → sentBy (done gone m buffer) ≡ m .sends
+pub sends-front : (gone : Bool) (m : Move) (buffer : List ℕ) → sentBy (done gone m buffer) ≡ m .sends
 unfolding done lay
 sends-front gone m buffer = take-append-seam (m .sends) _
 

@@ -10,3 +10,8 @@ pub mod Errors
 pub mod Failures
 pub mod Decides
 pub mod Tells
+pub mod Activity
+pub mod Silence
+pub mod DeadTime
+pub mod Delivers
+pub mod Worked

@@ -81,7 +81,7 @@ module _ (l : Link) (tick : ℕ) where
   outcome-ways : listens (l .phase) (l .dead) ≡ true → Ways (Outcome l tick) l tick
   outcome-ways e =
       record {
-        unread = goes (quietly (renewed l tick));
+        unread = λ _. goes (quietly (renewed l tick));
         opens = λ rate _. goes (record { calm = calm-opened rate; clean = clean-zero });
         off-list = fails 2 (λ q. omega arith) e;
         breaks = breaks e;

@@ -1,12 +1,12 @@
 -- Every record that a call hands back is sound where the one that it was given is.
-use Prim.Native.Nat.{ℕ, _+_, _-_, _<_}
+use Prim.Native.Nat.{ℕ, _+_, _-_, _≤_, _<_}
 use mathlib.Core.Path.{_≡_, refl, sym, _∙_}
 use mathlib.Core.List.{List, [], _∷_, _++_}
 use mathlib.Core.Bool.{Bool, true, false, cond, not, _&&_}
 use native.Mathlib.Omega.{arith}
 use lib.ListN.{length}
 use lib.Dec.{eqb, leb}
-use borrow.Author.Tests.{le-leb}
+use borrow.Author.Tests.{le-leb, eqb-true}
 use Rattle.lists.specs.Bytes.{allAre}
 use Rattle.lists.specs.Checks.{first}
 use Rattle.lists.proofs.Tests.{absurd-test, both, first-passed}
@@ -84,8 +84,17 @@ fits-open : (p : Phase) (d r o : Bool) (rate n : ℕ) → p ≡ Open → fitsPha
 unfolding fitsPhase
 fits-open p d r o rate n e = rw e
 
+-- in Start nothing is held
+pub start-empty : (l : Link) → Parts l → l .phase ≡ Start → l .held ≡ 0
+unfolding fitsPhase
+start-empty l p q =
+    let a = both (not (l .dead)) _ (rw q at (p .phase)) in
+    let b = both (not (l .rpc)) _ (a .1) in
+    let c = both (not (l .outstanding)) _ (b .1) in
+    eqb-true (l .held) 0 (both (eqb (l .rate) firstRate) (eqb (l .held) 0) (c .1) .1)
+
 -- ---- the records that the rules name
-parts-fresh : Parts fresh
+pub parts-fresh : Parts fresh
 unfolding fresh onList fitsPhase
 parts-fresh = record { holder = rest-holder; rate = refl; phase = refl; long = refl }
 
@@ -105,25 +114,25 @@ module _ (l : Link) (p : Parts l) where
   parts-rpc : (r : Bool) → l .phase ≡ Open → Parts (withRpc l r)
   parts-rpc r e = record { holder = p .holder; rate = p .rate; phase = fits-open (l .phase) (l .dead) r (l .outstanding) (l .rate) (l .held) e; long = p .long }
 
-  parts-outstanding : (o : Bool) → l .phase ≡ Open → Parts (withOutstanding l o)
+  pub parts-outstanding : (o : Bool) → l .phase ≡ Open → Parts (withOutstanding l o)
   parts-outstanding o e = record { holder = p .holder; rate = p .rate; phase = fits-open (l .phase) (l .dead) (l .rpc) o (l .rate) (l .held) e; long = p .long }
 
-  module _ (b tick : ℕ) (f : allButSum (heldOf l) ≡ false) where
-    left : l .held < mostHeld
+  module _ (f : allButSum (heldOf l) ≡ false) where
+    pub left : l .held < mostHeld
     left = let h = held-good (l .held) (l .kind) (l .frame) (p .holder) in
-        space-left l tick (p .long) (p .holder) b (sym (lacks-held (l .held) (l .kind) (l .frame) (p .long) (h .most) (h .zeros)) ∙ f)
+        space-left l (p .long) (p .holder) (sym (lacks-held (l .held) (l .kind) (l .frame) (p .long) (h .most) (h .zeros)) ∙ f)
 
-    holder-kept : goodStart (heldOf l ++ (b ∷ [])) ≡ true → holderGood (l .held + 1) (store (kept l b tick)) ≡ true
+    holder-kept : (b : ℕ) → goodStart (heldOf l ++ (b ∷ [])) ≡ true → holderGood (l .held + 1) (store (kept l b)) ≡ true
     unfolding holderGood kept
-    holder-kept g =
+    holder-kept b g =
         let h = held-good (l .held) (l .kind) (l .frame) (p .holder) in
         let q : leb (l .held + 1) mostHeld ≡ true = le-leb (l .held + 1) mostHeld (omega (arith, left)) in
-        let s : goodStart (heldOf (kept l b tick)) ≡ true = rw (held-kept l b tick (p .long) left) g in
-        rw (q, zero-kept l b tick (p .long) left (h .zeros)) s
+        let s : goodStart (heldOf (kept l b)) ≡ true = rw (held-kept l b (p .long) left) g in
+        rw (q, zero-kept l b (p .long) left (h .zeros)) s
 
-    parts-kept : goodStart (heldOf l ++ (b ∷ [])) ≡ true → (l .phase ≡ Start → ⊥) → Parts (kept l b tick)
+    pub parts-kept : (b : ℕ) → goodStart (heldOf l ++ (b ∷ [])) ≡ true → (l .phase ≡ Start → ⊥) → Parts (kept l b)
     unfolding kept
-    parts-kept g h = record { holder = holder-kept g; rate = p .rate; phase = fits-more (l .phase) (l .dead) (l .rpc) (l .outstanding) (l .rate) (l .held) (l .held + 1) h (p .phase); long = length-kept l b tick (p .long) left }
+    parts-kept b g h = record { holder = holder-kept b g; rate = p .rate; phase = fits-more (l .phase) (l .dead) (l .rpc) (l .outstanding) (l .rate) (l .held) (l .held + 1) h (p .phase); long = length-kept l b (p .long) left }
 
 -- ---- after the silence and dead time checks
 sound-dead : (l : Link) (last tick : ℕ) → sound l ≡ true → sound (withDead l (stillDead (l .dead) last tick)) ≡ true
@@ -162,7 +171,7 @@ unfolding listens
 not-start p d e q = absurd-test (rw q at e)
 
 -- what is held is not yet all of a frame, and goes on
-goes-on : (h : List ℕ) (b : ℕ) → reading h b ≡ more → (allButSum h ≡ false) × (goodStart (h ++ (b ∷ [])) ≡ true)
+pub goes-on : (h : List ℕ) (b : ℕ) → reading h b ≡ more → (allButSum h ≡ false) × (goodStart (h ++ (b ∷ [])) ≡ true)
 unfolding reading
 goes-on h b = by-test (allButSum h) refl (eqb b (xored 0 h)) (goodStart (h ++ (b ∷ []))) refl where
   by-test : (t : Bool) → allButSum h ≡ t → (u v : Bool) → goodStart (h ++ (b ∷ [])) ≡ v → cond t (cond u whole wrong) (cond v more wrong) ≡ more
@@ -181,7 +190,7 @@ module _ (l : Link) (p : Parts l) (tick : ℕ) where
   parts-ways =
       let r = parts-renewed l p tick in
       record {
-        unread = r;
+        unread = λ _. r;
         opens = λ rate e. parts-open rate tick e;
         off-list = r;
         breaks = parts-fresh;
@@ -195,19 +204,23 @@ module _ (l : Link) (p : Parts l) (tick : ℕ) where
   parts-received : (b : ℕ) → Parts (received l b tick .link)
   parts-received b =
       ways-received (λ m n e. Parts (m .link)) l b tick (λ _. p)
-      (λ e q. let g = goes-on (heldOf l) b q in parts-kept l p b tick (g .0) (g .1) (not-start (l .phase) (l .dead) e))
+      (λ e q. let g = goes-on (heldOf l) b q in parts-kept l p (g .0) b (g .1) (not-start (l .phase) (l .dead) e))
       (λ _. parts-ways)
 
   parts-pulled : Parts (pulled l tick .link)
   parts-pulled = by-pulled (λ m. Parts (m .link)) l tick (parts-baud tick) p
 
 -- ---- a call
+pub checks-pass : (l : Link) (n : ℕ) → sound l ≡ true → shortestBuffer ≤ n → first (checks l n) ≡ 0
+unfolding checks first
+checks-pass l n s h = rw (s, le-leb shortestBuffer n h)
+
 is-open : (p : Phase) → byPhase p false false true ≡ true → p ≡ Open
 is-open Start e = absurd-test e
 is-open Baud e = absurd-test e
 is-open Open e = refl
 
-send-open : (l l′ : Link) (count buffer : ℕ) → first (sendChecks l l′ count buffer) ≡ 0 → l′ .phase ≡ Open
+pub send-open : (l l′ : Link) (count buffer : ℕ) → first (sendChecks l l′ count buffer) ≡ 0 → l′ .phase ≡ Open
 unfolding sendChecks
 send-open l l′ count buffer e = is-open (l′ .phase) (first-passed _ refl e .1 .0)
 

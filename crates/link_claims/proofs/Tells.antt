@@ -1,19 +1,15 @@
 -- What the cases of an answer carry.
 use Prim.Native.Nat.{ℕ, zero, suc, _≤_}
-use mathlib.Core.Path.{_≡_, refl}
-use mathlib.Core.List.{List, []}
-use mathlib.Core.Bool.{Bool, true, false}
+use mathlib.Core.Path.{_≡_}
+use mathlib.Core.Bool.{true}
 use native.Mathlib.Omega.{arith}
 use lib.Dec.{eqb·suc-zero}
-use Rattle.link_frames.specs.Frames.{mostData, dataFrame, heartbeat}
-use Rattle.link_state.specs.Link.{inBaud}
+use Rattle.link_frames.specs.Frames.{mostData}
 use Rattle.link_state.specs.Silence.{checked}
 use Rattle.link_state.specs.Sound.{onList}
 use Rattle.link_state.specs.declared.Link.{Link}
-use Rattle.link_turns.specs.Moves.{Saying, nothing, opened, handed, failed, detected, refused, ended, Move}
-use Rattle.link_turns.specs.Turns.{quiet, answers, pulled}
+use Rattle.link_turns.specs.Moves.{Saying, nothing, opened, handed, failed, detected, refused, ended}
 use Rattle.link.specs.Answers.{done, refusing}
-use Rattle.link.specs.Hearing.{received}
 use Rattle.link_claims.specs.Calls.{Call, pull, byte, poll, send, step}
 use Rattle.link_claims.specs.Tells.{TellsOnly}
 use Rattle.link_claims.proofs.Ways.{moveOf, by-refusal, by-pulled, Ways, ways-received}
@@ -51,7 +47,7 @@ says-ended (suc k) h =
 says-ways : (l : Link) (tick : ℕ) → Ways (λ m n e. Says (m .saying)) l tick
 says-ways l tick =
     record {
-      unread = says-nothing;
+      unread = λ _. says-nothing;
       opens = says-opened;
       off-list = says-nothing;
       breaks = says-detected;

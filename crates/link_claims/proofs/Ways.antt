@@ -70,7 +70,7 @@ by-pulled P l tick x y = by-phase (l .phase) where
 
 -- ---- a whole frame: its move, the status that it fails with, and whether it is out of place
 pub record Ways (P : Move → ℕ → Bool → Type 0) (l : Link) (tick : ℕ) : Type 0 where
-  pub unread : P (quiet (renewed l tick)) 0 false
+  pub unread : l .phase ≡ Start → P (quiet (renewed l tick)) 0 false
   pub opens : (rate : ℕ) → onList rate ≡ true → P (move (inOpen rate tick) (opened rate) (status 0) (padded [])) 0 false
   pub off-list : P (answers (renewed l tick) (status 2)) 2 false
   pub breaks : P broken 0 true
@@ -115,19 +115,19 @@ module _ (P : Move → ℕ → Bool → Type 0) (l : Link) (tick : ℕ) (w : Way
     by-test false false false false true z out false k = w .fails
     by-test false false false false false z out rpc k = w .breaks
 
-  ways-whole : (bytes : List ℕ) → known (getD bytes 0 0) (getD bytes 1 0) ≡ true → P (wholeFrame l bytes tick) (failure l bytes) (outOfPlace l bytes)
+  pub ways-whole : (bytes : List ℕ) → known (getD bytes 0 0) (getD bytes 1 0) ≡ true → P (wholeFrame l bytes tick) (failure l bytes) (outOfPlace l bytes)
   unfolding wholeFrame failure outOfPlace
-  ways-whole bytes k = by-test (l .phase) (ways-open (getD bytes 0 0) (getD bytes 1 0) _ k) where
-    by-test : (p : Phase) {x : Move} {n : ℕ} {e : Bool} → (p ≡ Open → P x n e)
+  ways-whole bytes k = by-test (l .phase) refl (ways-open (getD bytes 0 0) (getD bytes 1 0) _ k) where
+    by-test : (p : Phase) → l .phase ≡ p → {x : Move} {n : ℕ} {e : Bool} → (p ≡ Open → P x n e)
         → P (byPhase p (quiet (renewed l tick)) (baudFrame (renewed l tick) (getD bytes 0 0) (word bytes 1) tick) x)
         (byPhase p 0 (cond (eqb (getD bytes 0 0) baudType) (cond (onList (word bytes 1)) 0 2) 0) n)
         (byPhase p false (not (eqb (getD bytes 0 0) baudType)) e)
-    by-test Start f = w .unread
-    by-test Baud f = ways-baud (getD bytes 0 0) (word bytes 1)
-    by-test Open f = f refl
+    by-test Start q f = w .unread q
+    by-test Baud q f = ways-baud (getD bytes 0 0) (word bytes 1)
+    by-test Open q f = f refl
 
 -- ---- a byte
-whole-known : (h : List ℕ) (b : ℕ) → reading h b ≡ whole → known (getD h 0 0) (getD h 1 0) ≡ true
+pub whole-known : (h : List ℕ) (b : ℕ) → reading h b ≡ whole → known (getD h 0 0) (getD h 1 0) ≡ true
 unfolding reading allButSum lacksSum
 whole-known h b = by-test (known (getD h 0 0) (getD h 1 0)) refl (eqb (length h) (size (getD h 0 0) (getD h 1 0))) (eqb b (xored 0 h)) (goodStart (h ++ (b ∷ []))) where
   by-test : (k : Bool) → known (getD h 0 0) (getD h 1 0) ≡ k → (t u v : Bool) → cond (k && t) (cond u whole wrong) (cond v more wrong) ≡ whole
@@ -136,18 +136,26 @@ whole-known h b = by-test (known (getD h 0 0) (getD h 1 0)) refl (eqb (length h)
   by-test false e t u true q = never (cc)
   by-test false e t u false q = never (cc)
 
-module _ (P : Move → ℕ → Bool → Type 0) (l : Link) (b tick : ℕ) where
-  pub ways-received : (listens (l .phase) (l .dead) ≡ false → P (quiet l) 0 false)
-      → (listens (l .phase) (l .dead) ≡ true → reading (heldOf l) b ≡ more → P (quiet (kept l b tick)) 0 false)
-      → (listens (l .phase) (l .dead) ≡ true → Ways P l tick)
-      → P (received l b tick) (byByte l b 0 0 (failure l (heldOf l)) 0) (byByte l b false false (outOfPlace l (heldOf l)) true)
-  unfolding received heard
-  ways-received ignored keeps w = by-test (listens (l .phase) (l .dead)) refl (reading (heldOf l) b) refl where
-    by-test : (t : Bool) → listens (l .phase) (l .dead) ≡ t → (r : Reading) → reading (heldOf l) b ≡ r
-        → P (cond t (byReading r (quiet (kept l b tick)) (wholeFrame l (heldOf l) tick) broken) (quiet l))
-        (cond t (byReading r 0 (failure l (heldOf l)) 0) 0)
-        (cond t (byReading r false (outOfPlace l (heldOf l)) true) false)
-    by-test true e more q = keeps e q
-    by-test true e whole q = ways-whole P l tick (w e) (heldOf l) (whole-known (heldOf l) b q)
-    by-test true e wrong q = w e .breaks
-    by-test false e r q = ignored e
+-- what a byte comes to, and beside it the choice of one of four by that
+pub by-received : (P : Move → ((A : Type 0) → A → A → A → A → A) → Type 0) (l : Link) (b tick : ℕ)
+    → (listens (l .phase) (l .dead) ≡ false → P (quiet l) (λ A ignored more whole wrong. ignored))
+    → (listens (l .phase) (l .dead) ≡ true → reading (heldOf l) b ≡ more → P (quiet (kept l b)) (λ A ignored more whole wrong. more))
+    → (listens (l .phase) (l .dead) ≡ true → reading (heldOf l) b ≡ whole → P (wholeFrame l (heldOf l) tick) (λ A ignored more whole wrong. whole))
+    → (listens (l .phase) (l .dead) ≡ true → P broken (λ A ignored more whole wrong. wrong))
+    → P (received l b tick) (λ A ignored more whole wrong. byByte l b ignored more whole wrong)
+unfolding received heard
+by-received P l b tick ignored keeps ends breaks = by-test (listens (l .phase) (l .dead)) refl (reading (heldOf l) b) refl where
+  by-test : (t : Bool) → listens (l .phase) (l .dead) ≡ t → (r : Reading) → reading (heldOf l) b ≡ r
+      → P (cond t (byReading r (quiet (kept l b)) (wholeFrame l (heldOf l) tick) broken) (quiet l)) (λ A i m w x. cond t (byReading r m w x) i)
+  by-test true e more q = keeps e q
+  by-test true e whole q = ends e q
+  by-test true e wrong q = breaks e
+  by-test false e r q = ignored e
+
+pub ways-received : (P : Move → ℕ → Bool → Type 0) (l : Link) (b tick : ℕ) → (listens (l .phase) (l .dead) ≡ false → P (quiet l) 0 false)
+    → (listens (l .phase) (l .dead) ≡ true → reading (heldOf l) b ≡ more → P (quiet (kept l b)) 0 false)
+    → (listens (l .phase) (l .dead) ≡ true → Ways P l tick)
+    → P (received l b tick) (byByte l b 0 0 (failure l (heldOf l)) 0) (byByte l b false false (outOfPlace l (heldOf l)) true)
+ways-received P l b tick ignored keeps w =
+    by-received (λ m pick. P m (pick ℕ 0 0 (failure l (heldOf l)) 0) (pick Bool false false (outOfPlace l (heldOf l)) true)) l b tick ignored keeps
+    (λ e q. ways-whole P l tick (w e) (heldOf l) (whole-known (heldOf l) b q)) (λ e. w e .breaks)

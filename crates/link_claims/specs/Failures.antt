@@ -33,8 +33,8 @@ failureOf l (byte b tick buffer) = let l′ : Link = checked l tick in byByte l�
 failureOf l (poll tick buffer) = 0
 failureOf l (send bytes tick buffer) = 0
 
--- phase, rate, RPC and outstanding data are as they came, the holder is renewed, and dead time is over; nothing is told or handed over, and the
--- status stands at the front of the buffer
+-- phase, rate, RPC and outstanding data are as they came, the frame is activity, the holder is renewed, and dead time is over; nothing is told or
+-- handed over, and the status stands at the front of the buffer
 abbrev pub failing : ℕ → Link → ℕ → List ℕ → Step
 failing code l tick buffer =
     record {

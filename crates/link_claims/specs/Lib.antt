@@ -8,3 +8,9 @@ pub mod Failures
 pub mod Sound
 pub mod Decides
 pub mod Tells
+pub mod Answered
+pub mod Activity
+pub mod Silence
+pub mod DeadTime
+pub mod Delivers
+pub mod Worked

@@ -44,22 +44,22 @@ fresh = entering Start firstRate 0 false
 unfoldable pub inBaud : ℕ → Link
 inBaud tick = entering Baud firstRate tick false
 
--- "enters Open at that rate", with dead time running
+-- "enters Open at that rate", with dead time running: the baud frame is activity
 unfoldable pub inOpen : ℕ → ℕ → Link
 inOpen rate tick = entering Open rate tick true
 
--- the record after a whole frame: the holder is renewed
+-- the record after a whole frame, which is activity: the holder is renewed
 unfoldable pub renewed : Link → ℕ → Link
 renewed l tick =
     record { phase = l .phase; rate = l .rate; last = tick; dead = l .dead; rpc = l .rpc; outstanding = l .outstanding; held = 0; kind = 0; frame = atRest }
 
--- the record with one byte more held
-unfoldable pub kept : Link → ℕ → ℕ → Link
-kept l byte tick =
+-- the record with one byte more held; this is no activity
+unfoldable pub kept : Link → ℕ → Link
+kept l byte =
     record {
       phase = l .phase;
       rate = l .rate;
-      last = tick;
+      last = l .last;
       dead = l .dead;
       rpc = l .rpc;
       outstanding = l .outstanding;

@@ -14,7 +14,7 @@ pub fn since(last: u32, tick: u32) -> u32
     std::num::wrapping_sub_u32(tick, last)
 }
 
-// Whether the other end has been silent for too long.
+// Whether it is too long since the last activity.
 pub fn silent(last: u32, tick: u32) -> bool
     ensures { λ r. ⌜ r ≡ silence last tick ⌝ }
 {

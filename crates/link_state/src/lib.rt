@@ -27,7 +27,8 @@ pub struct Link {
     pub phase: Phase,
     // What the line is to be at: 9600 but in Open. The reply to the baud frame that changes it is still sent at 9600.
     pub rate: u32,
-    // The tick of the last activity, which is entry to Baud and any byte that is not ignored. Sending is not activity.
+    // The tick of the last activity, which is entry to Baud and the last byte of a frame that is no detected error, whatever status it
+    // gets. A byte that is held is not activity, nor is what is sent. Dead time counts from it too: the baud frame is the last activity then.
     pub last: u32,
     // Dead time runs: bytes are ignored, and a send is refused with 12. The first call at 25 ms or more that is not refused ends it; a
     // send is judged as if it had ended then.

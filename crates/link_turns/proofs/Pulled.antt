@@ -1,7 +1,7 @@
 -- A pulled line, by the test that the code makes.
 use Prim.Native.Nat.{ℕ}
 use mathlib.Core.Path.{_≡_, refl, sym, _∙_}
-use mathlib.Core.Bool.{Bool, true, false, cond}
+use mathlib.Core.Bool.{true, false, cond}
 use Rattle.link_frames.specs.Frames.{heartbeat}
 use Rattle.link_state.specs.Link.{byPhase, inBaud}
 use Rattle.link_state.specs.declared.Link.{Link}

@@ -1,21 +1,25 @@
-// The operations, by their names in the table.
+// The operations, by their names in the table: the calls, of which `POLL` is the last, and then what is read off.
 pub const PULL: u8 = 0;
 
-pub const HEAR: u8 = 1;
+pub const REPULL: u8 = 1;
 
-pub const SEND: u8 = 2;
+pub const HEAR: u8 = 2;
 
-pub const POLL: u8 = 3;
+pub const SEND: u8 = 3;
 
-pub const RATE: u8 = 4;
+pub const POLL: u8 = 4;
 
-pub const PHASE: u8 = 5;
+pub const RATE: u8 = 5;
 
-pub const SENT: u8 = 6;
+pub const PHASE: u8 = 6;
 
-pub const HANDED: u8 = 7;
+pub const SENT: u8 = 7;
 
-pub const HEARD: u8 = 8;
+pub const HANDED: u8 = 8;
+
+pub const HEARD: u8 = 9;
+
+pub const LOST: u8 = 10;
 
 // No operation has it.
 pub const UNKNOWN: u8 = 255;
@@ -24,6 +28,9 @@ pub const UNKNOWN: u8 = 255;
 fn call_of(name: &[u8]) -> u8 {
     if lists::same(name, b"pull") {
         return PULL;
+    }
+    if lists::same(name, b"repull") {
+        return REPULL;
     }
     if lists::same(name, b"hear") {
         return HEAR;
@@ -53,6 +60,9 @@ pub fn number_of(name: &[u8]) -> u8 {
     }
     if lists::same(name, b"heard") {
         return HEARD;
+    }
+    if lists::same(name, b"lost") {
+        return LOST;
     }
     call_of(name)
 }

@@ -23,7 +23,7 @@ const WRONG: u8 = 0x05;
 const REFUSED: u8 = 0x06;
 
 // A link, and of its last call the event, with the status or the number that it tells, the bytes of data that it handed over, and
-// how many it sent; and how many bytes were heard up to it.
+// how many it sent; and how many bytes of its row were heard up to it, and whether one of the row's calls told that the link was lost.
 pub struct Probe {
     link: Link,
     event: u8,
@@ -32,6 +32,7 @@ pub struct Probe {
     bytes: Payload,
     sent: usize,
     heard: usize,
+    lost: bool,
 }
 
 // An event's number, the status or the number that it tells, and how many bytes it hands over.
@@ -50,6 +51,7 @@ pub fn new() -> Probe {
         bytes: [0u8; link_frames::MOST_DATA],
         sent: 0,
         heard: 0,
+        lost: false,
     }
 }
 
@@ -78,8 +80,8 @@ fn told_of(event: Event) -> Told {
     }
 }
 
-// A call, after some bytes heard.
-fn after(next: Next, heard: usize) -> Probe {
+// A call, with which so many bytes of its row are heard; `lost` is whether a call of the row before it told a loss.
+fn after(next: Next, heard: usize, lost: bool) -> Probe {
     let link = next.link;
     let told = next.told;
     let event = told.event;
@@ -93,17 +95,20 @@ fn after(next: Next, heard: usize) -> Probe {
         bytes,
         sent: told.sent,
         heard,
+        lost: lost | told.lost,
     }
 }
 
-// Bytes heard at one tick, up to the one that shows an error.
+// Bytes heard at one tick, up to the one that shows an error. The first one's call can tell that the link was lost; this is kept over
+// the others' calls.
 fn hear(probe: Probe, bytes: &[u8], tick: u32, got: &mut [u8]) -> Probe {
     let mut state = probe;
+    state.lost = false;
     let mut i: usize = 0;
     while i < bytes.len() {
         let next = link::byte(state.link, bytes[i], tick, got);
         i += 1;
-        state = after(next, i);
+        state = after(next, i, state.lost);
         if state.event == WRONG {
             return state;
         }
@@ -111,10 +116,11 @@ fn hear(probe: Probe, bytes: &[u8], tick: u32, got: &mut [u8]) -> Probe {
     state
 }
 
-// A pull of a fresh link, data that is sent, or a poll.
+// A pull of a fresh link or of the link as it stands, data that is sent, or a poll.
 fn call_once(operation: u8, link: Link, bytes: &[u8], tick: u32, got: &mut [u8]) -> Next {
     match operation {
         names::PULL => link::pull(link::new(), tick, got),
+        names::REPULL => link::pull(link, tick, got),
         names::SEND => link::send(link, bytes, tick, got),
         _ => link::poll(link, tick, got),
     }
@@ -130,7 +136,7 @@ pub fn call(probe: Probe, operation: u8, input: &[u8], got: &mut [u8]) -> Probe 
     if operation == names::HEAR {
         return hear(probe, bytes, tick, got);
     }
-    after(call_once(operation, probe.link, bytes, tick, got), 0)
+    after(call_once(operation, probe.link, bytes, tick, got), 0, false)
 }
 
 fn phase_of(link: Link) -> u8 {
@@ -167,6 +173,7 @@ pub fn read_off(operation: u8, probe: Probe, answer: &[u8], told: &mut [u8]) -> 
             probe.handed
         }
         names::HEARD => tables::put_word((probe.heard % 256) as u32, told),
+        names::LOST => tables::put_byte(probe.lost as u8, told),
         _ => put_event(probe.event, probe.detail, told),
     }
 }

@@ -27,6 +27,10 @@ ghost use Rattle.link_claims.specs.Reading.{ReadingIs};
 ghost use Rattle.link_claims.specs.Own.{ReadsOwn};
 ghost use Rattle.link_claims.specs.Decides.{Decides};
 ghost use Rattle.link_claims.specs.Tells.{TellsOnly};
+ghost use Rattle.link_claims.specs.Silence.{SilenceCountsFrames};
+ghost use Rattle.link_claims.specs.DeadTime.{DeadSinceBaud};
+ghost use Rattle.link_claims.specs.Delivers.{Delivers};
+ghost use Rattle.link_claims.specs.Worked.{WorkedProbe};
 ghost use Rattle.cases.specs.Cases.{Starred};
 ghost use Rattle.cases.specs.Example.{Example};
 
@@ -270,6 +274,30 @@ pub fn decides()
 // A rate that is told is on the list, data that is handed over is at most 64 bytes, and a failure is 1 or 2.
 pub fn tells_only()
     ensures { λ r. ⌜ TellsOnly ⌝ }
+{}
+
+// Silence counts frames. A call is activity where its answer shows entry to Baud or the last byte of a frame that is no detected error.
+// Over every list of calls from a fresh link, outside Start: the tick of last activity is that of the last such call; a call that is not
+// refused tells a loss exactly at 250 ms or more since then, and is then the call of a fresh link, whatever was held.
+pub fn silence_counts_frames()
+    ensures { λ r. ⌜ SilenceCountsFrames ⌝ }
+{}
+
+// Where dead time runs, it counts from the tick of the call that told that the link is open.
+pub fn dead_since_baud()
+    ensures { λ r. ⌜ DeadSinceBaud ⌝ }
+{}
+
+// To a sound link in Open, out of dead time and with nothing held, within 250 ms of the last activity: with RPC open the bytes of a data
+// frame are quiet until the last, which hands over exactly its data and sends status 0; those of a status after our send are quiet until
+// the last, which tells how our data has ended.
+pub fn delivers()
+    ensures { λ r. ⌜ Delivers ⌝ }
+{}
+
+// Ten calls bring a fresh link there; and of a data frame that then comes a byte every 200 ms the second byte finds the link lost.
+pub fn worked_probe()
+    ensures { λ r. ⌜ WorkedProbe ⌝ }
 {}
 
 // ---- The worked cases.

@@ -1,8 +1,11 @@
 -- With zeros behind what is held, the holder tells the type, the rate, the code and the data of the frame.
+use Prim.Native.Nat.{ℕ}
 use mathlib.Core.Path.{_≡_, sym, ap, _∙_}
-use lib.ListN.{length}
+use lib.ListN.{length, getD, drop}
 use borrow.Author.Needs.{needs}
-use Rattle.link_turns.specs.Turns.{quiet}
+use Rattle.link_state.specs.Link.{renewed}
+use Rattle.link_state.specs.declared.Link.{Link}
+use Rattle.link_turns.specs.Turns.{quiet, baudFrame, openFrame}
 use Rattle.link.proofs.Hearing.{whole-start, whole-baud, whole-open}
 use Rattle.link.proofs.frame_whole.Statement.{statement}
 use Rattle.link.proofs.frame_whole.Tie as tie
@@ -45,16 +48,21 @@ returns-2 c =
     let phase = c .before .before .before .before .before in
     let next = phase .before .before in
     let start = next .before in
-    rw (next .renew .ensures, c .before .word-at .ensures) at (c .baud-frame .ensures)
-    ∙ sym (whole-baud (start .args .t1) (start .args .tick) (frame-length start) (start .pre) (phase .enum-told2 .given .1))
+    let l = start .args .t1 in
+    c .baud-frame .ensures
+    ∙ (ap (λ (r : Link). baudFrame r (l .kind) (c .before .word-at .result) (start .args .tick)) (next .renew .ensures)
+    ∙ (ap (λ (rate : ℕ). baudFrame (renewed l (start .args .tick)) (l .kind) rate (start .args .tick)) (c .before .word-at .ensures)
+    ∙ sym (whole-baud l (start .args .tick) (frame-length start) (start .pre) (phase .enum-told2 .given .1))))
 
 returns-3 : tie.Need-returns-3
 returns-3 c =
     let phase = c .before .before .before in
     let next = phase .before .before in
     let start = next .before in
-    rw (next .renew .ensures) at (c .open-frame .ensures)
-    ∙ sym (whole-open (start .args .t1) (start .args .tick) (frame-length start) (start .pre) (phase .enum-told3 .given .1))
+    let l = start .args .t1 in
+    c .open-frame .ensures
+    ∙ (ap (λ (r : Link). openFrame r (l .kind) (getD (l .frame) 0 0) (drop 1 (l .frame))) (next .renew .ensures)
+    ∙ sym (whole-open l (start .args .tick) (frame-length start) (start .pre) (phase .enum-told3 .given .1)))
 
 pub frame-whole-spec : {M : Type 1} → statement M
 frame-whole-spec =

@@ -57,7 +57,7 @@ returns-2 c =
 keep-requires : tie.Need-keep-requires
 keep-requires c κs =
     let start = c .before .before .before in
-    space-left (start .args .t1) (start .args .tick) (frame-length start) (start .pre) (start .args .byte) (sym (c .before .lacks-sum .ensures) ∙ c .if1 .left)
+    space-left (start .args .t1) (frame-length start) (start .pre) (sym (c .before .lacks-sum .ensures) ∙ c .if1 .left)
 
 element-copy-out-is-begun : tie.Need-element-copy-out-is-begun
 element-copy-out-is-begun c = search needs

@@ -1,0 +1,34 @@
+-- The calls of a worked probe, worked out.
+use mathlib.Core.Path.{refl}
+use Rattle.lists.specs.Checks.{first}
+use Rattle.lists.specs.Bytes.{allAre}
+use Rattle.lists.specs.Lay.{lay}
+use Rattle.fields.specs.Words.{word}
+use Rattle.fields.specs.Checksum.{xored}
+use Rattle.link_frames.specs.Frames.{known, size, frameOf}
+use Rattle.link_frames.specs.Reading.{begins, lacksSum, goodStart, allButSum, reading}
+use Rattle.link_state.specs.Clock.{silence, stillDead}
+use Rattle.link_state.specs.Link.{fresh, inBaud, inOpen, renewed, kept}
+use Rattle.link_state.specs.Silence.{lost, checked}
+use Rattle.link_state.specs.Sound.{onList, fitsPhase, holderGood, sound}
+use Rattle.link_state.specs.Refusals.{checks}
+use Rattle.link_turns.specs.Moves.{padded}
+use Rattle.link_turns.specs.Turns.{pulled, baudFrame, controlFrame, openFrame, listens}
+use Rattle.link.specs.Answers.{done}
+use Rattle.link.specs.Hearing.{wholeFrame, heard, received}
+use Rattle.link.specs.Step.{call, pullStep, byteStep}
+use Rattle.link_claims.specs.Calls.{step, after}
+use Rattle.link_claims.specs.Worked.{lent, opening, WorkedProbe}
+
+pub worked-probe : WorkedProbe
+unfolding
+    opening lent after step pullStep byteStep call first checks sound holderGood onList fitsPhase begins goodStart lacksSum allButSum known
+    size reading xored allAre lost silence checked stillDead fresh inBaud inOpen renewed kept pulled listens received heard wholeFrame
+    baudFrame openFrame controlFrame done word padded frameOf lay
+worked-probe =
+    record {
+      opened = record { good = record { passes = refl; holder = refl }; connected = refl; awake = refl; empty = refl };
+      rpc = refl;
+      first-byte = (refl, refl);
+      second-byte = (refl, refl);
+    }
