@@ -15,7 +15,7 @@ use Rattle.packets.specs.Packets.{header}
 use Rattle.commands.specs.Header.{command, sized, shaped}
 use Rattle.begins.specs.Begin.{beginOf, roundUp, counted, flashRule}
 use Rattle.commands.specs.Parameters.{syncRule}
-use Rattle.sessions.specs.Errors.{kind, plainChecks, checks, errorOf}
+use Rattle.errors.specs.Errors.{kind, plainChecks, checks, errorOf}
 use Rattle.effects.specs.Effects.{effect}
 use Rattle.effects.specs.Handle.{carriedOut, failed, handle}
 use Rattle.effects.specs.Notes.{no-order}

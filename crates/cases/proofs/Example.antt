@@ -15,7 +15,7 @@ use Rattle.unframing.specs.Reasons.{letters, whole}
 use Rattle.packets.specs.Packets.{header}
 use Rattle.commands.specs.Header.{command, sized, shaped}
 use Rattle.commands.specs.Parameters.{syncRule}
-use Rattle.sessions.specs.Errors.{kind, plainChecks, endChecks, checks, errorOf}
+use Rattle.errors.specs.Errors.{kind, plainChecks, endChecks, checks, errorOf}
 use Rattle.sessions.specs.Session.{flashOpen}
 use Rattle.effects.specs.Core.{Core}
 use Rattle.effects.specs.Effects.{effect}

@@ -19,10 +19,12 @@ use Rattle.link_frames.specs.Reading.{begins, lacksSum, goodStart, allButSum, r
 use Rattle.link_state.specs.Clock.{elapsed, silence, stillDead}
 use Rattle.link_state.specs.Link.{fresh, inBaud, inOpen, renewed, kept, withDead}
 use Rattle.link_state.specs.Silence.{lost, checked}
-use Rattle.link_state.specs.Sound.{onList, fitsPhase, holderGood, sound}
-use Rattle.link_state.specs.Refusals.{shortestBuffer, checks, sendChecks}
-use Rattle.link_state.proofs.Sound.{checks-passed}
-use Rattle.link_turns.specs.Turns.{baudFrame, listens}
+use Rattle.link_state.specs.Rates.{onList}
+use Rattle.link_refusals.specs.Sound.{fitsPhase, holderGood, sound}
+use Rattle.link_refusals.specs.Refusals.{shortestBuffer, checks, sendChecks}
+use Rattle.link_refusals.proofs.Sound.{checks-passed}
+use Rattle.link_turns.specs.Turns.{listens}
+use Rattle.link_whole.specs.Whole.{baudFrame}
 use Rattle.link.specs.Answers.{done, sentBy}
 use Rattle.link.specs.Hearing.{wholeFrame, heard, received}
 use Rattle.link.specs.Step.{call, byteStep, pollStep, sendStep}

@@ -14,7 +14,7 @@ use Rattle.link_frames.specs.Frames.{baudRate, dataFrame}
 use Rattle.link_state.specs.Clock.{elapsed}
 use Rattle.link_state.specs.Link.{inBaud, inOpen}
 use Rattle.link_state.specs.Silence.{checked}
-use Rattle.link_state.specs.Refusals.{shortestBuffer, sendChecks}
+use Rattle.link_refusals.specs.Refusals.{shortestBuffer, sendChecks}
 use Rattle.link.specs.Answers.{sentBy}
 use Rattle.link.specs.Step.{byteStep, sendStep}
 use Rattle.link_state.specs.declared.Link.{Link}

@@ -13,7 +13,7 @@ use Rattle.unframing.specs.Line.{Closed, stepOf, Step as ByteStep}
 use Rattle.unframing.specs.declared.Reason.{Reason}
 use Rattle.runs.specs.Run.{runOf}
 use Rattle.commands.specs.Header.{command}
-use Rattle.sessions.specs.Errors.{errorOf}
+use Rattle.errors.specs.Errors.{errorOf}
 use Rattle.effects.specs.Core.{Core, lengths}
 use Rattle.effects.specs.Notes.{Order}
 use Rattle.effects.specs.Handle.{Reply, nothing, replied, carriedOut, failed, handle}

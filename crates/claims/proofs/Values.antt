@@ -7,7 +7,7 @@ use lib.Dec.{eqb}
 use Rattle.packets.specs.Packets.{Packet, dropped, read}
 use Rattle.commands.specs.Numbers.{READ-REG}
 use Rattle.commands.specs.Header.{command}
-use Rattle.sessions.specs.Errors.{kind, flash-begin, flash-data, flash-end, memory-begin, memory-end, memory-data, sync, write-reg, spi-attach, unknown}
+use Rattle.errors.specs.Errors.{kind, flash-begin, flash-data, flash-end, memory-begin, memory-end, memory-data, sync, write-reg, spi-attach, unknown}
 use Rattle.effects.specs.Core.{Core}
 use Rattle.effects.specs.Effects.{effect}
 use Rattle.effects.specs.Handle.{Reply, nothing, replied, carriedOut, failed, handle}

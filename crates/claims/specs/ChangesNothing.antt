@@ -12,7 +12,7 @@ use Rattle.unframing.specs.Line.{stepOf, Closed, Step as ByteStep}
 use Rattle.unframing.specs.declared.Reason.{Reason}
 use Rattle.runs.specs.Run.{runOf}
 use Rattle.commands.specs.Header.{command}
-use Rattle.sessions.specs.Errors.{errorOf}
+use Rattle.errors.specs.Errors.{errorOf}
 use Rattle.answers.specs.Answer.{answerBytes}
 use Rattle.effects.specs.Core.{lengths}
 use Rattle.effects.specs.Notes.{Order, no-order}

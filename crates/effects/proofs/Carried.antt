@@ -3,7 +3,7 @@ use Prim.Native.Nat.{ℕ}
 use mathlib.Core.Path.{_≡_, sym, _∙_}
 use mathlib.Core.List.{List}
 use Rattle.commands.specs.Header.{command}
-use Rattle.sessions.specs.Errors.{Kind, kind, unknown}
+use Rattle.errors.specs.Errors.{Kind, kind, unknown}
 use Rattle.sessions.specs.declared.Session.{Session}
 use Rattle.effects.specs.Core.{Core}
 use Rattle.effects.specs.Effects.{effect}

@@ -16,7 +16,7 @@ use Rattle.commands.specs.Parameters.{place}
 use Rattle.commands.proofs.Rules.{data-length}
 use Rattle.sessions.specs.Session.{flashOpen, memoryOpen, announced, accepted, sessionGood}
 use Rattle.sessions.specs.declared.Session.{Session}
-use Rattle.sessions.proofs.Checks.{DataPassed}
+use Rattle.errors.proofs.Checks.{DataPassed}
 use Rattle.blocks.specs.Flash.{flashBlock, flashFits, flashWritten}
 use Rattle.blocks.specs.Memory.{wordsBlock, wordsFit, wordsWritten}
 use Rattle.effects.proofs.Passing.{flash-ruled, memory-ruled}

@@ -9,9 +9,9 @@ use Rattle.lists.proofs.Tests.{Passed, passed-first, first-passed}
 use Rattle.packets.specs.Packets.{read}
 use Rattle.commands.specs.Header.{command}
 use Rattle.sessions.specs.Session.{sessionGood, ifSound}
-use Rattle.sessions.specs.Errors.{kind, checks, errorOf}
+use Rattle.errors.specs.Errors.{kind, checks, errorOf}
 use Rattle.sessions.specs.declared.Session.{Session}
-use Rattle.sessions.proofs.Checks.{all-numbered}
+use Rattle.errors.proofs.Checks.{all-numbered}
 use Rattle.effects.specs.Core.{Core, lengths, withSession}
 use Rattle.effects.specs.Handle.{Handled, carriedOut, failed, handle, obeyed, Does}
 use Rattle.effects.specs.declared.Note.the-variants.{Nothing}

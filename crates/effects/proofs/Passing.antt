@@ -15,10 +15,10 @@ use Rattle.commands.specs.Header.{command}
 use Rattle.commands.specs.Parameters.{flashEndRule, memoryEndRule, registerRule, writeRule, place}
 use Rattle.commands.proofs.Rules.{register-place}
 use Rattle.sessions.specs.Session.{flashOpen, memoryOpen, announced, sessionGood}
-use Rattle.sessions.specs.Errors.{kind, checks, plainChecks, errorOf}
+use Rattle.errors.specs.Errors.{kind, checks, plainChecks, errorOf}
 use Rattle.sessions.specs.declared.Session.{Session}
 use Rattle.sessions.specs.declared.Session.the-variants.{Closed, Flash, Memory}
-use Rattle.sessions.proofs.Checks.{all-numbered, DataPassed, data-passed, end-passed}
+use Rattle.errors.proofs.Checks.{all-numbered, DataPassed, data-passed, end-passed}
 
 -- a session that is open kept its BEGIN's rule
 pub flash-ruled : (l : Lengths) (s : Session) → sessionGood l s ≡ true → flashOpen s ≡ true → Ruled l (announced s)

@@ -11,7 +11,7 @@ use Rattle.begins.specs.Begin.{beginOf}
 use Rattle.commands.specs.Block.{payload}
 use Rattle.commands.specs.Parameters.{place}
 use Rattle.sessions.specs.Session.{announced, accepted, advanced}
-use Rattle.sessions.specs.Errors.{Kind, flash-begin, flash-data, flash-end, memory-begin, memory-end, memory-data, sync, write-reg, read-reg, spi-attach, unknown}
+use Rattle.errors.specs.Errors.{Kind, flash-begin, flash-data, flash-end, memory-begin, memory-end, memory-data, sync, write-reg, read-reg, spi-attach, unknown}
 use Rattle.sessions.specs.declared.Session.the-variants.{Closed, Flash, Memory}
 use Rattle.blocks.specs.Flash.{flashBlock}
 use Rattle.blocks.specs.Memory.{wordsBlock}

@@ -7,7 +7,7 @@ use lib.Dec.{eqb}
 use Rattle.packets.specs.Packets.{Packet, dropped, read}
 use Rattle.unframing.specs.declared.Reason.{Reason}
 use Rattle.commands.specs.Header.{command}
-use Rattle.sessions.specs.Errors.{kind, errorOf}
+use Rattle.errors.specs.Errors.{kind, errorOf}
 use Rattle.effects.specs.Core.{Core, lengths, soundOnly}
 use Rattle.effects.specs.Notes.{Order, no-order, noted}
 use Rattle.effects.specs.Effects.{effect}

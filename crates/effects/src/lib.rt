@@ -25,7 +25,7 @@ ghost use Rattle.fields.specs.Merge.{merged};
 ghost use Rattle.commands.specs.Header.{command};
 ghost use Rattle.commands.specs.Parameters.{place};
 ghost use Rattle.sessions.specs.Session.{accepted, advanced, sessionGood};
-ghost use Rattle.sessions.specs.Errors.{errorOf};
+ghost use Rattle.errors.specs.Errors.{errorOf};
 ghost use Rattle.effects.specs.Notes.{noted, end-word, end-jump};
 ghost use Rattle.effects.specs.Handle.{carriedOut, obeyed, Does};
 
@@ -214,7 +214,7 @@ pub fn obey(
         words: words.len(),
     };
     let open = sessions::if_sound(lengths, session);
-    let error = sessions::error_of(lengths, open, packet);
+    let error = errors::error_of(lengths, open, packet);
     if error != 0 {
         return leaving(error, session, attach);
     }

@@ -18,10 +18,10 @@ use Rattle.begins.proofs.Sectors.{reaches, round-mono, round-le}
 use Rattle.commands.specs.Header.{command}
 use Rattle.commands.specs.Block.{payload}
 use Rattle.sessions.specs.Session.{flashOpen, memoryOpen, announced, accepted, advanced, sessionGood}
-use Rattle.sessions.specs.Errors.{Kind, kind, flash-begin, flash-data, flash-end, memory-begin, memory-end, memory-data, sync, write-reg, read-reg, spi-attach, unknown, plainChecks, checks}
+use Rattle.errors.specs.Errors.{Kind, kind, flash-begin, flash-data, flash-end, memory-begin, memory-end, memory-data, sync, write-reg, read-reg, spi-attach, unknown, plainChecks, checks}
 use Rattle.sessions.specs.declared.Session.{Session}
 use Rattle.sessions.specs.declared.Session.the-variants.{Closed, Flash, Memory}
-use Rattle.sessions.proofs.Checks.{data-passed}
+use Rattle.errors.proofs.Checks.{data-passed}
 use Rattle.blocks.specs.Flash.{flashBlock}
 use Rattle.blocks.specs.Memory.{wordsBlock}
 use Rattle.blocks.proofs.Memory.{length-words}

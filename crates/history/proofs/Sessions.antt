@@ -12,10 +12,10 @@ use Rattle.commands.specs.Header.{command, shaped}
 use Rattle.commands.specs.Parameters.{flashEndRule}
 use Rattle.begins.specs.declared.Begin.{Begin}
 use Rattle.sessions.specs.Session.{flashOpen, memoryOpen, announced, accepted, advanced}
-use Rattle.sessions.specs.Errors.{Kind, kind, flash-begin, flash-data, flash-end, memory-begin, memory-end, memory-data, sync, write-reg, read-reg, spi-attach, unknown, plainChecks, endChecks, checks}
+use Rattle.errors.specs.Errors.{Kind, kind, flash-begin, flash-data, flash-end, memory-begin, memory-end, memory-data, sync, write-reg, read-reg, spi-attach, unknown, plainChecks, endChecks, checks}
 use Rattle.sessions.specs.declared.Session.{Session}
 use Rattle.sessions.specs.declared.Session.the-variants.{Closed, Flash, Memory}
-use Rattle.sessions.proofs.Checks.{Is, is-flash-begin, is-flash-data, is-flash-end, is-memory-begin, is-memory-end, is-memory-data, is-sync, is-write-reg, is-read-reg, is-spi-attach, is-unknown, is, DataPassed, data-passed, data-passes, EndPassed, end-passed, end-passes}
+use Rattle.errors.proofs.Checks.{Is, is-flash-begin, is-flash-data, is-flash-end, is-memory-begin, is-memory-end, is-memory-data, is-sync, is-write-reg, is-read-reg, is-spi-attach, is-unknown, is, DataPassed, data-passed, data-passes, EndPassed, end-passed, end-passes}
 use Rattle.blocks.specs.Flash.{flashBlock}
 use Rattle.effects.specs.Core.{Core, lengths}
 use Rattle.effects.specs.Effects.{effect}

@@ -10,7 +10,7 @@ use Rattle.lists.specs.Checks.{Check, first}
 use Rattle.link_frames.specs.Frames.{frameOf}
 use Rattle.link_frames.specs.Writing.{fitting}
 use Rattle.link_frames.proofs.Writing.{fits}
-use Rattle.link_state.specs.Refusals.{shortestBuffer}
+use Rattle.link_refusals.specs.Refusals.{shortestBuffer}
 use Rattle.link_state.specs.declared.Link.{Link}
 use Rattle.link_turns.specs.Moves.{Move, sent}
 use Rattle.link_turns.specs.declared.Reply.{Reply}

@@ -13,11 +13,12 @@ use Rattle.link_frames.specs.Reading.{goodStart, allButSum, begins, lacksSum, r
 use Rattle.link_frames.proofs.Holder.{zero-at, begins-held, lacks-held, sum-held}
 use Rattle.link_frames.proofs.Sizes.{lacks-bounds, begun}
 use Rattle.link_state.specs.Link.{store, heldOf, renewed, kept}
-use Rattle.link_state.specs.Sound.{holderGood}
+use Rattle.link_refusals.specs.Sound.{holderGood}
 use Rattle.link_state.specs.declared.Link.{Link}
 use Rattle.link_state.specs.declared.Phase.the-variants.{Start, Baud, Open}
-use Rattle.link_state.proofs.Sound.{held-good}
-use Rattle.link_turns.specs.Turns.{quiet, broken, baudFrame, openFrame}
+use Rattle.link_refusals.proofs.Sound.{held-good}
+use Rattle.link_turns.specs.Turns.{quiet, broken}
+use Rattle.link_whole.specs.Whole.{baudFrame, openFrame}
 use Rattle.link.specs.Hearing.{wholeFrame, heard}
 use Rattle.link.proofs.Padded.{data-padded}
 use Rattle.link.proofs.Kept.{held-kept, zero-kept, length-kept}

@@ -8,7 +8,7 @@ use Rattle.lists.specs.Checks.{Check, first}
 use Rattle.link_frames.specs.Frames.{dataFrame}
 use Rattle.link_state.specs.Link.{withOutstanding}
 use Rattle.link_state.specs.Silence.{lost, checked}
-use Rattle.link_state.specs.Refusals.{checks, sendChecks}
+use Rattle.link_refusals.specs.Refusals.{checks, sendChecks}
 use Rattle.link_state.specs.declared.Link.{Link}
 use Rattle.link_turns.specs.Moves.{Move}
 use Rattle.link_turns.specs.Turns.{quiet, answers, pulled}

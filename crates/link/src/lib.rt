@@ -4,7 +4,6 @@ pub use link_frames::Payload;
 pub use link_state::Link;
 pub use link_state::Phase;
 pub use link_state::new;
-use link_state::refusals;
 pub use link_turns::Event;
 use link_turns::Turn;
 ghost use mathlib.Core.Path.{_≡_};
@@ -14,8 +13,8 @@ ghost use Prim.Native.Nat.{ℕ, _≤_, _<_};
 ghost use lib.ListN.{length};
 ghost use Rattle.link_frames.specs.Frames.{mostHeld};
 ghost use Rattle.link_state.specs.Link.{store, heldOf, kept};
-ghost use Rattle.link_state.specs.Sound.{holderGood};
-ghost use Rattle.link_state.specs.Refusals.{shortestBuffer};
+ghost use Rattle.link_refusals.specs.Sound.{holderGood};
+ghost use Rattle.link_refusals.specs.Refusals.{shortestBuffer};
 ghost use Rattle.link_turns.specs.Moves.{moved};
 ghost use Rattle.link.specs.Answers.{came, done, refusing};
 ghost use Rattle.link.specs.Hearing.{wholeFrame, heard, received};
@@ -69,9 +68,9 @@ fn frame_whole(link: Link, tick: u32) -> Turn
         Phase::Start => link_turns::stay(next),
         Phase::Baud => {
             let rate = fields::word_at(&link.frame, 0);
-            link_turns::baud_frame(next, kind, rate, tick)
+            link_whole::baud_frame(next, kind, rate, tick)
         }
-        Phase::Open => link_turns::open_frame(next, kind, &link.frame),
+        Phase::Open => link_whole::open_frame(next, kind, &link.frame),
     }
 }
 
@@ -151,7 +150,7 @@ fn refuse(link: Link, number: u8) -> Next
 pub fn pull(link: Link, tick: u32, buffer: &mut [u8]) -> Next
     ensures { λ r. ⌜ came (r .link) (r .told) (now (buffer .exit)) ≡ pullStep link tick (now (buffer .entry)) ⌝ }
 {
-    let number = refusals::judge(link, buffer.len());
+    let number = link_refusals::judge(link, buffer.len());
     if number == 0 {
         let phase = link.phase;
         let gone = link_state::is_lost(phase, link.last, tick);
@@ -169,7 +168,7 @@ pub fn pull(link: Link, tick: u32, buffer: &mut [u8]) -> Next
 pub fn byte(link: Link, byte: u8, tick: u32, buffer: &mut [u8]) -> Next
     ensures { λ r. ⌜ came (r .link) (r .told) (now (buffer .exit)) ≡ byteStep link byte tick (now (buffer .entry)) ⌝ }
 {
-    let number = refusals::judge(link, buffer.len());
+    let number = link_refusals::judge(link, buffer.len());
     if number == 0 {
         let phase = link.phase;
         let gone = link_state::is_lost(phase, link.last, tick);
@@ -187,7 +186,7 @@ pub fn byte(link: Link, byte: u8, tick: u32, buffer: &mut [u8]) -> Next
 pub fn poll(link: Link, tick: u32, buffer: &mut [u8]) -> Next
     ensures { λ r. ⌜ came (r .link) (r .told) (now (buffer .exit)) ≡ pollStep link tick (now (buffer .entry)) ⌝ }
 {
-    let number = refusals::judge(link, buffer.len());
+    let number = link_refusals::judge(link, buffer.len());
     if number == 0 {
         let phase = link.phase;
         let gone = link_state::is_lost(phase, link.last, tick);
@@ -206,7 +205,7 @@ pub fn send(link: Link, bytes: &[u8], tick: u32, buffer: &mut [u8]) -> Next
     ensures { λ r. ⌜ came (r .link) (r .told) (now (buffer .exit)) ≡ sendStep link (now (bytes .entry)) tick (now (buffer .entry)) ⌝ }
 {
     let later = link_state::after_checks(link, tick);
-    let refusal = refusals::judge_send(link, later, bytes.len(), buffer.len());
+    let refusal = link_refusals::judge_send(link, later, bytes.len(), buffer.len());
     if refusal == 0 {
         let phase = link.phase;
         let gone = link_state::is_lost(phase, link.last, tick);

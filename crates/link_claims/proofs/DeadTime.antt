@@ -7,7 +7,7 @@ use Rattle.lists.proofs.Tests.{absurd-test, both}
 use Rattle.link_state.specs.Clock.{stillDead}
 use Rattle.link_state.specs.Link.{fresh, inBaud, inOpen, renewed, kept}
 use Rattle.link_state.specs.Silence.{checked}
-use Rattle.link_state.specs.Sound.{fitsPhase, sound}
+use Rattle.link_refusals.specs.Sound.{fitsPhase, sound}
 use Rattle.link_state.specs.declared.Link.{Link}
 use Rattle.link_state.specs.declared.Phase.{Phase}
 use Rattle.link_state.specs.declared.Phase.the-variants.{Start, Baud, Open}

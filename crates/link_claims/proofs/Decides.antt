@@ -13,9 +13,9 @@ use Rattle.link_frames.specs.Frames.{mostHeld}
 use Rattle.link_state.specs.Clock.{stillDead}
 use Rattle.link_state.specs.Link.{fresh, inBaud, inOpen, renewed, kept, withDead, withOutstanding}
 use Rattle.link_state.specs.Silence.{checked}
-use Rattle.link_state.specs.Sound.{sound}
-use Rattle.link_state.specs.Refusals.{shortestBuffer, checks}
-use Rattle.link_state.proofs.Sound.{held-good, checks-passed}
+use Rattle.link_refusals.specs.Sound.{sound}
+use Rattle.link_refusals.specs.Refusals.{shortestBuffer, checks}
+use Rattle.link_refusals.proofs.Sound.{held-good, checks-passed}
 use Rattle.link_state.specs.declared.Link.{Link}
 use Rattle.link_state.specs.declared.Phase.{Phase}
 use Rattle.link_state.specs.declared.Phase.the-variants.{Start, Baud, Open}

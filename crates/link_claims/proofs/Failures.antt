@@ -11,8 +11,8 @@ use Rattle.link_frames.specs.Frames.{frameOf, status}
 use Rattle.link_state.specs.Clock.{stillDead}
 use Rattle.link_state.specs.Link.{renewed}
 use Rattle.link_state.specs.Silence.{lost, checked}
-use Rattle.link_state.specs.Sound.{fitsPhase, sound}
-use Rattle.link_state.specs.Refusals.{checks, sendChecks}
+use Rattle.link_refusals.specs.Sound.{fitsPhase, sound}
+use Rattle.link_refusals.specs.Refusals.{checks, sendChecks}
 use Rattle.link_state.specs.declared.Link.{Link}
 use Rattle.link_state.specs.declared.Phase.{Phase}
 use Rattle.link_state.specs.declared.Phase.the-variants.{Start, Baud, Open}

@@ -12,8 +12,8 @@ use Rattle.lists.specs.Checks.{first}
 use Rattle.link_state.specs.Clock.{elapsed, silenceTime, silence, stillDead}
 use Rattle.link_state.specs.Link.{fresh, inBaud, inOpen, renewed, kept}
 use Rattle.link_state.specs.Silence.{lost, checked}
-use Rattle.link_state.specs.Refusals.{checks}
-use Rattle.link_state.proofs.Sound.{checks-passed}
+use Rattle.link_refusals.specs.Refusals.{checks}
+use Rattle.link_refusals.proofs.Sound.{checks-passed}
 use Rattle.link_state.specs.declared.Link.{Link}
 use Rattle.link_state.specs.declared.Phase.{Phase}
 use Rattle.link_state.specs.declared.Phase.the-variants.{Start, Baud, Open}

@@ -17,9 +17,10 @@ use Rattle.link_frames.proofs.Holder.{lacks-held}
 use Rattle.link_state.specs.Clock.{stillDead}
 use Rattle.link_state.specs.Link.{byPhase, store, heldOf, atRest, firstRate, fresh, inBaud, inOpen, renewed, kept, withRpc, withOutstanding, withDead}
 use Rattle.link_state.specs.Silence.{checked}
-use Rattle.link_state.specs.Sound.{onList, fitsPhase, holderGood, sound}
-use Rattle.link_state.specs.Refusals.{shortestBuffer, checks, sendChecks}
-use Rattle.link_state.proofs.Sound.{held-good}
+use Rattle.link_state.specs.Rates.{onList}
+use Rattle.link_refusals.specs.Sound.{fitsPhase, holderGood, sound}
+use Rattle.link_refusals.specs.Refusals.{shortestBuffer, checks, sendChecks}
+use Rattle.link_refusals.proofs.Sound.{held-good}
 use Rattle.link_turns.specs.Turns.{pulled, listens}
 use Rattle.link.specs.Answers.{done, refusing}
 use Rattle.link.specs.Hearing.{received}

@@ -6,7 +6,7 @@ use native.Mathlib.Omega.{arith}
 use lib.Dec.{eqb·suc-zero}
 use Rattle.link_frames.specs.Frames.{mostData}
 use Rattle.link_state.specs.Silence.{checked}
-use Rattle.link_state.specs.Sound.{onList}
+use Rattle.link_state.specs.Rates.{onList}
 use Rattle.link_state.specs.declared.Link.{Link}
 use Rattle.link_turns.specs.Moves.{Saying, nothing, opened, handed, failed, detected, refused, ended}
 use Rattle.link.specs.Answers.{done, refusing}

@@ -10,10 +10,12 @@ use Rattle.link_frames.specs.Reading.{begins, lacksSum, goodStart, allButSum, r
 use Rattle.link_state.specs.Clock.{silence, stillDead}
 use Rattle.link_state.specs.Link.{fresh, inBaud, inOpen, renewed, kept}
 use Rattle.link_state.specs.Silence.{lost, checked}
-use Rattle.link_state.specs.Sound.{onList, fitsPhase, holderGood, sound}
-use Rattle.link_state.specs.Refusals.{checks}
+use Rattle.link_state.specs.Rates.{onList}
+use Rattle.link_refusals.specs.Sound.{fitsPhase, holderGood, sound}
+use Rattle.link_refusals.specs.Refusals.{checks}
 use Rattle.link_turns.specs.Moves.{padded}
-use Rattle.link_turns.specs.Turns.{pulled, baudFrame, controlFrame, openFrame, listens}
+use Rattle.link_turns.specs.Turns.{pulled, listens}
+use Rattle.link_whole.specs.Whole.{baudFrame, controlFrame, openFrame}
 use Rattle.link.specs.Answers.{done}
 use Rattle.link.specs.Hearing.{wholeFrame, heard, received}
 use Rattle.link.specs.Step.{call, pullStep, byteStep}

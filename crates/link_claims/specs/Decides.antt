@@ -6,7 +6,7 @@ use Prim.Native.Nat.{ℕ, _+_, _<_}
 use lib.ListN.{length}
 use lib.Dec.{leb}
 use Rattle.link_frames.specs.Frames.{mostHeld}
-use Rattle.link_state.specs.Refusals.{shortestBuffer}
+use Rattle.link_refusals.specs.Refusals.{shortestBuffer}
 use Rattle.link_state.specs.declared.Link.{Link}
 use Rattle.link_claims.specs.Calls.{Call, pull, byte, poll, send, step}
 use Rattle.link_claims.specs.Sound.{SoundLink}

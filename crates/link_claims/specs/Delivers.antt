@@ -7,7 +7,7 @@ use lib.ListN.{length}
 use Rattle.link_frames.specs.Frames.{mostData, status, dataFrame}
 use Rattle.link_state.specs.Clock.{elapsed, silenceTime}
 use Rattle.link_state.specs.Link.{renewed, withOutstanding}
-use Rattle.link_state.specs.Refusals.{shortestBuffer}
+use Rattle.link_refusals.specs.Refusals.{shortestBuffer}
 use Rattle.link_state.specs.declared.Link.{Link}
 use Rattle.link_state.specs.declared.Phase.the-variants.{Open}
 use Rattle.link_turns.specs.Moves.{nothing, handed, ended, padded}

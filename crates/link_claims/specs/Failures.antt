@@ -10,7 +10,7 @@ use Rattle.fields.specs.Words.{word}
 use Rattle.link_frames.specs.Frames.{baudType, byType, status}
 use Rattle.link_state.specs.Link.{byPhase, heldOf, atRest}
 use Rattle.link_state.specs.Silence.{checked}
-use Rattle.link_state.specs.Sound.{onList}
+use Rattle.link_state.specs.Rates.{onList}
 use Rattle.link_state.specs.declared.Link.{Link}
 use Rattle.link_turns.specs.Moves.{nothing, padded}
 use Rattle.link.specs.Answers.{Step, sentBy}

@@ -6,8 +6,8 @@ use Prim.Native.Nat.{ℕ}
 use lib.ListN.{length}
 use Rattle.lists.specs.Checks.{Check, first}
 use Rattle.link_state.specs.Silence.{checked}
-use Rattle.link_state.specs.Sound.{sound}
-use Rattle.link_state.specs.Refusals.{checks, sendChecks}
+use Rattle.link_refusals.specs.Sound.{sound}
+use Rattle.link_refusals.specs.Refusals.{checks, sendChecks}
 use Rattle.link_state.specs.declared.Link.{Link}
 use Rattle.link_turns.specs.Moves.{refused}
 use Rattle.link.specs.Answers.{refusing}

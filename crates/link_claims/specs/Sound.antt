@@ -5,7 +5,7 @@ use mathlib.Core.Bool.{true}
 use lib.ListN.{length}
 use Rattle.link_frames.specs.Frames.{mostContents}
 use Rattle.link_state.specs.Link.{fresh}
-use Rattle.link_state.specs.Sound.{sound}
+use Rattle.link_refusals.specs.Sound.{sound}
 use Rattle.link_state.specs.declared.Link.{Link}
 use Rattle.link_turns.specs.Moves.{refused}
 use Rattle.link_claims.specs.Calls.{Call, step, after}

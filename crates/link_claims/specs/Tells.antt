@@ -3,7 +3,7 @@ use mathlib.Core.Path.{_≡_}
 use mathlib.Core.Bool.{true}
 use Prim.Native.Nat.{ℕ, _≤_}
 use Rattle.link_frames.specs.Frames.{mostData}
-use Rattle.link_state.specs.Sound.{onList}
+use Rattle.link_state.specs.Rates.{onList}
 use Rattle.link_state.specs.declared.Link.{Link}
 use Rattle.link_turns.specs.Moves.{opened, handed, failed}
 use Rattle.link_claims.specs.Calls.{Call, step}

@@ -1,5 +1,4 @@
 pub mod Clock
 pub mod Link
+pub mod Rates
 pub mod Silence
-pub mod Sound
-pub mod Refusals

@@ -1,13 +1,11 @@
-// The link's record: how a phase starts, which records refusal 5 lets pass, and what time does to a record.
+// The link's record: how a phase starts, the rates, and what time does to a record.
 mod clock;
-pub mod refusals;
 
 use link_frames::Holder;
 ghost use mathlib.Core.Path.{_≡_};
-ghost use mathlib.Core.List.{_∷_};
 ghost use Rattle.link_state.specs.Link.{entering, fresh, renewed};
 ghost use Rattle.link_state.specs.Silence.{lost, checked};
-ghost use Rattle.link_state.specs.Sound.{onList, fitsPhase, holderGood, sound};
+ghost use Rattle.link_state.specs.Rates.{onList};
 
 // The rate of a connection until another is agreed on, and of the line in Start and Baud.
 pub const FIRST_RATE: u32 = 9600;
@@ -86,53 +84,6 @@ pub fn on_list(rate: u32) -> bool
     (rate == FIRST_RATE)
         | ((rate == 19200)
             | ((rate == 38400) | ((rate == 57600) | ((rate == 115200) | (rate == 230400)))))
-}
-
-// Whether the rest of a record goes with its phase.
-fn fits_phase(
-    phase: Phase,
-    dead: bool,
-    rpc: bool,
-    outstanding: bool,
-    rate: u32,
-    held: usize,
-) -> bool
-    ensures { λ r. ⌜ r ≡ fitsPhase phase dead rpc outstanding rate held ⌝ }
-{
-    match phase {
-        Phase::Start => !dead & (!rpc & (!outstanding & ((rate == FIRST_RATE) & (held == 0)))),
-        Phase::Baud => !dead & (!rpc & (!outstanding & (rate == FIRST_RATE))),
-        Phase::Open => true,
-    }
-}
-
-// Whether what is held begins a longer good frame, with zeros behind it.
-fn holder_good(held: usize, kind: u8, frame: &Holder) -> bool
-    ensures { λ r. ⌜ r ≡ holderGood held (kind ∷ now (frame .entry)) ⌝ }
-{
-    if held <= link_frames::MOST_HELD {
-        if link_frames::zero_behind(held, kind, frame) {
-            return link_frames::is_begun(held, kind, frame[0]);
-        }
-    }
-    false
-}
-
-// Whether refusal 5 lets the record pass.
-pub fn is_sound(link: Link) -> bool
-    ensures { λ r. ⌜ r ≡ sound link ⌝ }
-{
-    let phase = link.phase;
-    holder_good(link.held, link.kind, &link.frame)
-        & (on_list(link.rate)
-            & fits_phase(
-                phase,
-                link.dead,
-                link.rpc,
-                link.outstanding,
-                link.rate,
-                link.held,
-            ))
 }
 
 // Whether the link is lost to silence; in Start there is nothing to lose.

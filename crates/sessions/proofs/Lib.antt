@@ -1,3 +1,1 @@
-pub mod Checks
-pub mod Numbers
 pub mod Sound

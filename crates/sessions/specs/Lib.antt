@@ -1,3 +1,1 @@
 pub mod Session
-pub mod Numbers
-pub mod Errors

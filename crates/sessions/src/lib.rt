@@ -1,11 +1,8 @@
-// The open session: what it says, whether refusal 5 lets it pass, and the error byte of a packet that finds it open.
-mod errors;
-
+// The open session: what it says, and whether refusal 5 lets it pass.
 use begins::Begin;
 use begins::Lengths;
 ghost use mathlib.Core.Path.{_≡_};
 ghost use Rattle.sessions.specs.Session.{flashOpen, memoryOpen, announced, accepted, sessionGood, ifSound};
-pub use errors::error_of;
 
 // The open session: none, flash or memory, with what its BEGIN announced and how many blocks are accepted.
 pub enum Session {

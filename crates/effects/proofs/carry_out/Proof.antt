@@ -1,7 +1,7 @@
 use mathlib.Core.Path.{refl, _∙_}
 use native.Mathlib.Omega.{arith}
-use Rattle.sessions.specs.Errors.{kind}
-use Rattle.sessions.proofs.Numbers.{kind-none}
+use Rattle.errors.specs.Errors.{kind}
+use Rattle.errors.proofs.Numbers.{kind-none}
 use Rattle.effects.specs.Effects.{effect}
 use Rattle.effects.proofs.Passing.{written-place, read-place, flash-data, memory-data, flash-word, memory-word}
 use Rattle.effects.proofs.Fitting.{flash-written, words-written}

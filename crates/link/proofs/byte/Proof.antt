@@ -2,7 +2,7 @@
 use mathlib.Core.Path.{sym, ap, _∙_}
 use borrow.Author.Needs.{needs}
 use Rattle.link_state.specs.declared.Link.{Link}
-use Rattle.link_state.proofs.Sound.{checks-passed, checked-holder}
+use Rattle.link_refusals.proofs.Sound.{checks-passed, checked-holder}
 use Rattle.link.specs.Hearing.{received}
 use Rattle.link.specs.Step.{byteStep}
 use Rattle.link.proofs.Calls.{call-taken, call-refused}

@@ -1,7 +1,7 @@
 -- The number 0 says that the record is sound and the buffer wide enough.
 use mathlib.Core.Path.{sym, ap, _∙_}
 use borrow.Author.Needs.{needs}
-use Rattle.link_state.proofs.Sound.{checks-passed}
+use Rattle.link_refusals.proofs.Sound.{checks-passed}
 use Rattle.link_turns.specs.Turns.{quiet}
 use Rattle.link.specs.Step.{pollStep}
 use Rattle.link.proofs.Calls.{call-taken, call-refused}

@@ -8,7 +8,7 @@ use Rattle.link_frames.specs.Frames.{dataFrame}
 use Rattle.link_frames.proofs.Writing.{data-fits}
 use Rattle.link_state.specs.declared.Link.{Link}
 use Rattle.link_state.specs.Link.{withOutstanding}
-use Rattle.link_state.proofs.Sound.{send-passed}
+use Rattle.link_refusals.proofs.Sound.{send-passed}
 use Rattle.link_turns.specs.Moves.{padded}
 use Rattle.link_turns.specs.Turns.{answers}
 use Rattle.link.specs.Answers.{done}

@@ -1,5 +1,5 @@
 use mathlib.Core.Path.{refl}
-use Rattle.link_state.specs.Sound.{onList}
+use Rattle.link_state.specs.Rates.{onList}
 use Rattle.link_state.proofs.on_list.Statement.{statement}
 use Rattle.link_state.proofs.on_list.Tie as tie
 

@@ -1,0 +1,31 @@
+-- "5 first (held bytes that begin no longer good frame, nonzero bytes behind them, a rate off the list; outside Open dead time, RPC open,
+-- data outstanding or a rate not 9600; in Start a held byte)": the records that refusal 5 lets pass.
+use mathlib.Core.List.{List}
+use mathlib.Core.Bool.{Bool, true, not, _&&_}
+use Prim.Native.Nat.{ℕ}
+use lib.ListN.{take, drop}
+use lib.Dec.{leb, eqb}
+use Rattle.lists.specs.Bytes.{allAre}
+use Rattle.link_frames.specs.Frames.{mostHeld}
+use Rattle.link_frames.specs.Reading.{goodStart}
+use Rattle.link_state.specs.Link.{byPhase, store, firstRate}
+use Rattle.link_state.specs.Rates.{onList}
+use Rattle.link_state.specs.declared.Link.{Link}
+use Rattle.link_state.specs.declared.Phase.{Phase}
+
+-- "outside Open dead time, RPC open, data outstanding or a rate not 9600; in Start a held byte"
+unfoldable pub fitsPhase : Phase → Bool → Bool → Bool → ℕ → ℕ → Bool
+fitsPhase phase dead rpc outstanding rate held =
+    byPhase phase
+    (not dead && (not rpc && (not outstanding && (eqb rate firstRate && eqb held 0))))
+    (not dead && (not rpc && (not outstanding && eqb rate firstRate)))
+    true
+
+-- "held bytes that begin no longer good frame, nonzero bytes behind them"
+unfoldable pub holderGood : ℕ → List ℕ → Bool
+holderGood held bytes = leb held mostHeld && (allAre 0 (drop held bytes) && goodStart (take held bytes))
+
+unfoldable pub sound : Link → Bool
+sound l =
+    holderGood (l .held) (store l)
+    && (onList (l .rate) && fitsPhase (l .phase) (l .dead) (l .rpc) (l .outstanding) (l .rate) (l .held))
