@@ -1,7 +1,7 @@
 -- "Starred ones are proved of the definitions themselves, gathered in a single table under a single statement."
 use mathlib.Core.Path.{_≡_}
 use mathlib.Core.List.{List, [], _∷_}
-use mathlib.Core.Bool.{true, false}
+use mathlib.Core.Bool.{true}
 use Prim.Native.Nat.{ℕ, _^_, _≤_, _<_}
 use lib.ListN.{length, take, drop, replicate}
 use Rattle.lists.specs.Checks.{first}

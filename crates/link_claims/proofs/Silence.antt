@@ -90,9 +90,9 @@ none-lost : (l : Link) (c : Call) → l .phase ≡ Start → step l c .lost ≡ 
 unfolding done refusing lost
 none-lost l c q = by-refusal (λ s. s .lost ≡ false) l c (λ _. rw q) (λ _. refl)
 
-alive-checked : (calls : List Call) (tick : ℕ) → Outside (checked (after fresh calls) tick) → Recent (activeAt calls) tick
+alive-at : (calls : List Call) (tick : ℕ) → Outside (checked (after fresh calls) tick) → Recent (activeAt calls) tick
 unfolding silence
-alive-checked calls tick =
+alive-at calls tick =
     let l = after fresh calls in
     by-checked (λ l′. Outside l′ → Recent (activeAt calls) tick) l tick (λ _ o. absurd (o fresh-inside))
     (λ q o. rw (ticks calls o) (leb-false silenceTime (elapsed (l .last) tick) (sym (lost-outside (l .phase) (l .last) tick o) ∙ q)))
@@ -109,7 +109,7 @@ alive : (calls : List Call) (c : Call) → refusalOf (after fresh calls) c ≡ 0
     → (active c (answerOf (step (after fresh calls) c)) ≡ true) ⊎ Recent (activeAt calls) (tickOf c)
 alive calls c z =
     by-refusal (λ s. Outside (s .link) → (active c (answerOf s) ≡ true) ⊎ Recent (activeAt calls) (tickOf c)) (after fresh calls) c
-    (λ _. active-or (after fresh calls) c (alive-checked calls (tickOf c))) (λ h. absurd (h z))
+    (λ _. active-or (after fresh calls) c (alive-at calls (tickOf c))) (λ h. absurd (h z))
 
 -- ---- a return to Start
 abbrev Ends : Link → Move → Type 0
@@ -203,6 +203,7 @@ silence-counts-frames =
       loss-told = loss-told;
       none-lost = none-lost;
       returns = returns;
+      alive-at = alive-at;
       alive = alive;
       unfinished = unfinished;
     }

@@ -8,7 +8,7 @@ use Prim.Native.Nat.{ℕ, _<_}
 use lib.Dec.{leb, eqb}
 use Rattle.link_state.specs.Clock.{elapsed, silenceTime}
 use Rattle.link_state.specs.Link.{fresh}
-use Rattle.link_state.specs.Silence.{lost}
+use Rattle.link_state.specs.Silence.{lost, checked}
 use Rattle.link_state.specs.declared.Link.{Link}
 use Rattle.link_state.specs.declared.Phase.the-variants.{Start}
 use Rattle.link_turns.specs.Moves.{detected}
@@ -57,7 +57,10 @@ pub record SilenceCountsFrames : Type 0 where
   pub none-lost : (l : Link) (c : Call) → l .phase ≡ Start → step l c .lost ≡ false
   -- no call returns to Start untold: it tells a loss or a detected error
   pub returns : (l : Link) (c : Call) → Outside l → step l c .link .phase ≡ Start → (step l c .lost ≡ true) ⊎ (step l c .saying ≡ detected)
-  -- so where a call that is not refused leaves the link outside Start, it is active itself, or an active one was less than 250 ms before it
+  -- so a link that the silence check, which every call makes first, leaves outside Start, be the call refused or not, has had an active call less than
+  -- 250 ms before this tick
+  pub alive-at : (calls : List Call) (tick : ℕ) → Outside (checked (after fresh calls) tick) → Recent (activeAt calls) tick
+  -- and where a call that is not refused leaves the link outside Start, it is active itself, or an active one was less than 250 ms before it
   pub alive :
       (calls : List Call) (c : Call) → refusalOf (after fresh calls) c ≡ 0 → Outside (step (after fresh calls) c .link)
       → (active c (answerOf (step (after fresh calls) c)) ≡ true) ⊎ Recent (activeAt calls) (tickOf c)

@@ -1,7 +1,7 @@
 -- "A probe with a weak battery sent one byte every 200 ms" (document 02, Three), worked: how a link comes to listen, and how it is lost.
 use mathlib.Core.Path.{_≡_}
 use mathlib.Core.List.{List, [], _∷_}
-use mathlib.Core.Bool.{true, false}
+use mathlib.Core.Bool.{true}
 use Prim.Native.Nat.{ℕ}
 use lib.ListN.{replicate}
 use Rattle.link_state.specs.Link.{fresh}
@@ -12,6 +12,7 @@ use Rattle.link.specs.Answers.{Step}
 use Rattle.link_claims.specs.Calls.{Call, pull, byte, step, after}
 use Rattle.link_claims.specs.Delivers.{Listening}
 
+-- a buffer just long enough for an answer
 unfoldable pub lent : List ℕ
 lent = replicate shortestBuffer 0
 
