@@ -6,10 +6,11 @@
   make_sample.py --large MIB FILE [TEXT]
                                   write a capture of about so many MiB, to time the listing with, and its listing to TEXT
 
-What is printed is worked out here from document 01 and request Two of document 02 alone, by the class Chip. Each packet
-of the sample also says what it is there for and what it has to get, its error or the reason it is dropped for, and a
-packet that gets something else stops the script.
+What is printed is worked out here from document 01 and requests Two and Four of document 02 alone, by the class Chip.
+Each packet of the sample also says what it is there for and what it has to get, its error or the reason it is dropped
+for, and a good digest command the bytes whose digest it is. A packet that gets something else stops the script.
 """
+import hashlib
 import pathlib
 import struct
 import sys
@@ -22,7 +23,7 @@ SHORTEST = 8
 REASONS = ("ESC", "CUT", "LONG", "SHORT", "DIR")
 
 
-# ---- document 01 and request Two, the chip's end
+# ---- document 01 and requests Two and Four, the chip's end
 
 def up(x, step):
     return (x + step - 1) // step * step
@@ -35,12 +36,17 @@ def checksum(data):
     return value
 
 
+def packed(direction, command, word, body, size=None):
+    """Requests and answers: the word is the checksum of the one and the value of the other."""
+    return struct.pack("<BBHI", direction, command, len(body) if size is None else size, word) + body
+
+
 class Chip:
     """A fresh loader with 64 KiB of 0xFF flash and 4,096 zero words. `feed` answers None, or what a closed packet got."""
 
-    LENGTHS = {0x02: 16, 0x04: 4, 0x05: 16, 0x06: 8, 0x08: 36, 0x09: 16, 0x0A: 4, 0x0D: 4}
+    LENGTHS = {0x02: 16, 0x04: 4, 0x05: 16, 0x06: 8, 0x08: 36, 0x09: 16, 0x0A: 4, 0x0D: 4, 0x13: 16}
     DATA = (0x03, 0x07)
-    COMMANDS = (0x02, 0x03, 0x04, 0x05, 0x06, 0x07, 0x08, 0x09, 0x0A, 0x0D)
+    COMMANDS = (0x02, 0x03, 0x04, 0x05, 0x06, 0x07, 0x08, 0x09, 0x0A, 0x0D, 0x13)
 
     def __init__(self):
         self.flash = bytearray(b"\xFF" * 65536)
@@ -83,7 +89,7 @@ class Chip:
         return packet
 
     def closed(self, stretch):
-        """(command, status, error) of a packet that is read, the reason of one that is dropped."""
+        """(command, status, error, answer) of a packet that is read, the reason of one that is dropped."""
         packet = self.unescape(stretch)
         if isinstance(packet, str):
             return packet
@@ -94,9 +100,9 @@ class Chip:
         command, size, total = struct.unpack_from("<xBHI", packet)
         body = bytes(packet[8:])
         error = self.error(command, size, total, body)
-        if error == 0:
-            self.carry_out(command, body)
-        return (command, 1 if error else 0, error)
+        status = 1 if error else 0
+        value, digest = (0, b"") if error else self.carry_out(command, body)
+        return (command, status, error, packed(1, command, value, digest + bytes([status, error])))
 
     # commands: the table of errors, from the top
 
@@ -150,6 +156,8 @@ class Chip:
             return word[0] == 1 or word[0] == 0 and WORDS_AT <= word[1] < end
         if command == 0x08:
             return body == b"\x07\x07\x12\x20" + b"\x55" * 32
+        if command == 0x13:
+            return word[2] == 0 and word[3] == 0 and word[0] + word[1] <= len(self.flash)
         if command in (0x09, 0x0A):
             inside = word[0] % 4 == 0 and WORDS_AT <= word[0] < end
             return inside and (command == 0x0A or word[3] == 0)
@@ -157,6 +165,7 @@ class Chip:
         return word[0] in (0, 1) or word[0] >> 30 == 0 and all(field <= 31 for field in fields)
 
     def carry_out(self, command, body):
+        """The value and the digest of the answer."""
         word = struct.unpack("<%dI" % (len(body[:16]) // 4), body[:len(body[:16]) // 4 * 4])
         s = self.session
         if command in (0x02, 0x05):
@@ -178,8 +187,13 @@ class Chip:
         elif command == 0x09:
             at = (word[0] - WORDS_AT) // 4
             self.words[at] = self.words[at] & ~word[2] | word[1] & word[2]
+        elif command == 0x0A:
+            return self.words[(word[0] - WORDS_AT) // 4], b""
         elif command == 0x0D:
             self.attach = word[0]
+        elif command == 0x13:
+            return 0, hashlib.md5(self.flash[word[0]:word[0] + word[1]]).digest()
+        return 0, b""
 
 
 # ---- the host's end: packets as they stand on the line
@@ -189,7 +203,7 @@ def words(*values):
 
 
 def packet(command, body, total=0, size=None, direction=0):
-    return struct.pack("<BBHI", direction, command, len(body) if size is None else size, total) + body
+    return packed(direction, command, total, body, size)
 
 
 def block(command, sequence, data, third=0, fourth=0, total=None, length=None):
@@ -203,6 +217,10 @@ def escaped(raw):
 
 def framed(raw):
     return b"\xC0" + escaped(raw) + b"\xC0"
+
+
+def digest(address, size, third=0, fourth=0):
+    return packet(0x13, words(address, size, third, fourth))
 
 
 SYNC = packet(0x08, b"\x07\x07\x12\x20" + b"\x55" * 32)
@@ -229,6 +247,7 @@ class Capture:
     def __init__(self):
         self.bytes = bytearray()
         self.expected = []
+        self.digests = {}
 
     def raw(self, line, why, *closes):
         """Bytes of the line as they are, and what the packets that they close have to get: an error or a reason."""
@@ -237,6 +256,11 @@ class Capture:
 
     def send(self, request, why, close=0):
         self.raw(framed(request), why, close)
+
+    def digest(self, address, size, why, of):
+        """A good digest command, and the bytes whose digest it has to get."""
+        self.send(digest(address, size), "the digest of " + why)
+        self.digests[len(self.expected)] = hashlib.md5(of).digest()
 
 
 def sample():
@@ -382,7 +406,7 @@ def sample():
     c.send(packet(0x0D, words(0x00000020)), "field 32", 0xC5)
     c.send(packet(0x0D, words(0x091C82C6 | 1 << 30)), "a bit above the five fields", 0xC5)
     c.send(packet(0x0D, words(0, 0)), "SPI_ATTACH of two words, as the ESP32's ROM takes it", 0xC0)
-    for command in (0x00, 0x0B, 0x0C, 0x0E, 0x0F, 0x13, 0xC0, 0xD0, 0xDB, 0xFF):
+    for command in (0x00, 0x0B, 0x0C, 0x0E, 0x0F, 0x12, 0xC0, 0xD0, 0xDB, 0xFF):
         c.send(packet(command, b""), "a command that is not in the list", 0xFF)
     c.send(packet(0x0B, words(0), size=9), "and whose size is wrong: the command comes first", 0xFF)
 
@@ -461,6 +485,58 @@ def sample():
     ):
         c.raw(stretch + b"\xC0", why, reason)
 
+    # the digest: good ones, and that they leave a load as it is, and then the errors
+    low, high = image(4096, 0x11), image(4096, 0x77)
+    flash = (low + high + data).ljust(65536, b"\xFF")
+    c.digest(0, 0, "no bytes", b"")
+    c.digest(65536, 0, "no bytes at the very end", b"")
+    c.digest(0, 65536, "all of the flash", flash)
+    c.digest(65535, 1, "the last byte", b"\xFF")
+    c.digest(8192, 5000, "the load at 8,192", data)
+    c.digest(8191, 5003, "that with a byte before it and two behind", high[-1:] + data + b"\xFF\xFF")
+    fresh = image(1500, 0x3C)
+    begin, f0, f1, end = load("flash", 1500, 1024, 4096, fresh, words(1))
+    c.send(begin, "FLASH_BEGIN: 1,500 bytes in 2 blocks of 1,024 at 4,096")
+    c.digest(4096, 4096, "its sector, which BEGIN does not write", high)
+    c.send(f0, "block 0")
+    c.digest(4096, 4096, "its sector between two blocks", fresh[:1024].ljust(4096, b"\xFF"))
+    c.send(digest(4096, 4096, third=1), "a digest command that fails between two blocks", 0xC5)
+    c.send(f1, "block 1")
+    c.digest(4096, 1500, "the load before its END", fresh)
+    c.send(end, "FLASH_END: the load ends well")
+    c.digest(4096, 1500, "the load behind its END", fresh)
+    begin, m0, m1, end = load("memory", 8, 4, WORDS_AT, image(8, 0x5A), words(1, 0))
+    c.send(begin, "MEM_BEGIN: 8 bytes in 2 blocks of 4")
+    c.digest(0, 4096, "a sector while a memory session is open", low)
+    c.send(m0, "block 0")
+    c.digest(0, 64, "64 bytes between two blocks", low[:64])
+    c.send(m1, "block 1")
+    c.send(end, "MEM_END: the load ends well")
+    body = words(0, 1, 0, 0, 0)
+    c.send(packet(0x13, b""), "a digest command without a body", 0xC0)
+    c.send(packet(0x13, body[:15]), "of 15 bytes", 0xC0)
+    c.send(packet(0x13, body[:17]), "of 17 bytes", 0xC0)
+    c.send(packet(0x13, body), "of five words", 0xC0)
+    c.send(packet(0x13, body[:16], size=15), "of 16 bytes with size 15", 0xC0)
+    c.send(packet(0x13, body[:15], size=16), "of 15 bytes with size 16", 0xC0)
+    c.send(packet(0x13, words(65537, 1, 1)), "of three words, with a bad address: its length comes first", 0xC0)
+    for address, size, third, fourth, why in (
+        (0, 1, 1, 0, "the third word is 1"),
+        (0, 1, 0, 1, "the fourth word is 1"),
+        (0, 0, 0x1000000, 0, "the third word is not 0 in its highest byte alone"),
+        (0, 65537, 0, 0, "a byte more than the flash has"),
+        (65535, 2, 0, 0, "one past the end"),
+        (65536, 1, 0, 0, "a byte at the very end"),
+        (65537, 0, 0, 0, "no bytes one past the end"),
+        (0xFFFFFFFF, 1, 0, 0, "an address whose sum with the size runs over 32 bits"),
+        (1, 0xFFFFFFFF, 0, 0, "a size whose sum with the address runs over 32 bits"),
+        (0xFFFFFFFF, 0xFFFFFFFF, 0, 0, "the highest of both"),
+    ):
+        c.send(digest(address, size, third, fourth), "a digest command: " + why, 0xC5)
+    c.send(packet(0x13, words(0, 1, 0, 0), total=0x12345678), "a digest command: its checksum field is not compared")
+    c.send(packet(0x14, words(0, 1, 0, 0)), "a number more than the digest command's", 0xFF)
+    c.digest(0, 65536, "all of the flash behind all that", flash[:4096] + fresh.ljust(4096, b"\xFF") + flash[8192:])
+
     # one C0 between two packets, and the end of the capture in the middle of one
     c.raw(b"\xC0" + escaped(SYNC) + b"\xC0" + escaped(SYNC) + b"\xC0", "one C0 closes a packet and opens the next", good, good)
     c.raw(escaped(SYNC), "a packet that nothing closes")
@@ -470,7 +546,7 @@ def sample():
 # ---- the listing
 
 def line(number, got):
-    fields = ["--", "--", got] if got in REASONS else ["%02X" % value for value in got]
+    fields = ["--", "--", got] if got in REASONS else ["%02X" % value for value in got[:3]]
     return "\t".join([str(number)] + fields) + "\n"
 
 
@@ -491,6 +567,8 @@ def made():
     for number, (got, (meant, why)) in enumerate(zip(answers, capture.expected), 1):
         has = got if got in REASONS else got[2]
         assert has == meant, "packet %d (%s): %s, and %s was meant" % (number, why, got, meant)
+        if number in capture.digests:
+            assert got[3][8:-2] == capture.digests[number], "packet %d (%s): another digest" % (number, why)
     missing = set(REASONS) - set(answers)
     assert not missing, "no packet for %s" % missing
     return bytes(capture.bytes), text

@@ -1,63 +1,60 @@
--- An answer of ten bytes is written whole, or, where it does not fit, not at all; 22 bytes always hold it.
-use Prim.Native.Nat.{ℕ, _≤_, _<_}
-use mathlib.Core.Path.{_≡_, refl, sym, _∙_}
-use mathlib.Core.List.{List}
-use mathlib.Core.Bool.{Bool, true, false}
+-- An answer is written whole, or, where the framing routine refuses, not at all; the longest answer buffer holds every one.
+use Prim.Native.Nat.{ℕ, _+_, _/_, _%_, _≤_, _<_}
+use mathlib.Core.Path.{_≡_, refl, ap, sym, subst}
+use mathlib.Core.List.{List, _∷_, _++_}
 use native.Mathlib.Omega.{arith}
-use lib.Dec.{leb}
-use lib.ListN.{length}
-use borrow.Author.Tests.{leb-true, leb-false, le-leb}
+use lib.ListN.{length, length-append}
 use Rattle.lists.specs.Lay.{lay}
-use Rattle.lists.proofs.Fits.{lay-fits, lay-unfit}
-use Rattle.framing.specs.Frame.{framed, framing, Frames, refused, wrote, frameReport}
+use Rattle.fields.specs.Words.{bytesOf}
+use Rattle.framing.specs.Frame.{longest, framed, wrote, Framing, framing, Frames}
 use Rattle.framing.specs.declared.Framed.{Framed}
 use Rattle.framing.specs.declared.Framed.the-variants.{Written, Refused}
 use Rattle.framing.proofs.Escapes.{length-framed, escaped-most}
-use Rattle.framing.proofs.Refusals.{framing-written, framing-short}
-use Rattle.answers.specs.Answer.{answerBytes}
-use Rattle.answers.specs.Reply.{longestAnswer, Replies}
+use Rattle.framing.proofs.Refusals.{framing-written, framing-long}
+use Rattle.answers.specs.declared.Body.{Body}
+use Rattle.answers.specs.Answer.{statusBytes, bodyBytes, answerWith, answerBytes}
+use Rattle.answers.specs.Reply.{longestAnswer, sentOf, Replies}
 
-module _
-    (bytes buffer after : List ℕ) (f : Framed) (h : Frames (framing bytes buffer) f after) (ten : length bytes ≡ 10) where
-  -- ten bytes are refused only where they do not fit
-  written : length (framed bytes) ≤ length buffer → (frameReport f ≡ wrote (length (framed bytes))) × (after ≡ lay buffer 0 (framed bytes))
-  written k = let e = framing-written bytes buffer (omega arith) (omega arith) k in (rw e at (h .answer), rw e at (h .buffer))
+-- the same bytes, said otherwise
+pub framed-as : (bytes whole buffer after : List ℕ) (f : Framed) → bytes ≡ whole → Frames (framing bytes buffer) f after → Frames (framing whole buffer) f after
+framed-as bytes whole buffer after f e h = subst (λ (p : List ℕ). Frames (framing p buffer) f after) e h
 
-  unwritten : length buffer < length (framed bytes) → (frameReport f ≡ refused 8) × (after ≡ buffer)
-  unwritten k = let e = framing-short bytes buffer (omega arith) (omega arith) k in (rw e at (h .answer), rw e at (h .buffer))
-
-  fitting : (n : ℕ) → f ≡ Written n → (t : Bool) → leb (length (framed bytes)) (length buffer) ≡ t → Replies bytes buffer n after
-  fitting n e true q =
-      let k : length (framed bytes) ≤ length buffer = leb-true _ _ q in
-      let w : wrote n ≡ wrote (length (framed bytes)) = rw e at (written k .0) in
-      record { sent = rw q (cc); buffer = written k .1 ∙ sym (lay-fits buffer 0 (framed bytes) (omega arith)) }
-  fitting n e false q =
-      let w : wrote n ≡ refused 8 = rw e at (unwritten (leb-false _ _ q) .0) in
-      let z : _≡_ {A = ℕ} 0 1 = cc in
-      absurd (omega arith)
-
-  unfitting : (x : ℕ) → f ≡ Refused x → (t : Bool) → leb (length (framed bytes)) (length buffer) ≡ t → Replies bytes buffer 0 after
-  unfitting x e true q =
-      let w : refused x ≡ wrote (length (framed bytes)) = rw e at (written (leb-true _ _ q) .0) in
-      let z : _≡_ {A = ℕ} 0 1 = cc in
-      absurd (omega arith)
-  unfitting x e false q =
-      let k : length buffer < length (framed bytes) = leb-false _ _ q in
-      record { sent = rw q; buffer = unwritten k .1 ∙ sym (lay-unfit buffer 0 (framed bytes) (omega arith)) }
-
+module _ (bytes buffer after : List ℕ) (f : Framed) (h : Frames (framing bytes buffer) f after) where
   pub replied : (n : ℕ) → f ≡ Written n → Replies bytes buffer n after
-  replied n e = fitting n e (leb (length (framed bytes)) (length buffer)) refl
+  replied n e = record { sent = ap sentOf (rw e at (h .answer)); buffer = h .buffer }
 
   pub unreplied : (x : ℕ) → f ≡ Refused x → Replies bytes buffer 0 after
-  unreplied x e = unfitting x e (leb (length (framed bytes)) (length buffer)) refl
+  unreplied x e = record { sent = ap sentOf (rw e at (h .answer)); buffer = h .buffer }
 
--- every answer fits a buffer of 22 bytes
-pub answer-most : (c e v : ℕ) → length (framed (answerBytes c e v)) ≤ longestAnswer
-answer-most c e v = omega (arith, length-framed (answerBytes c e v), escaped-most (answerBytes c e v))
+-- the header before the body and the status bytes makes the answer
+pub answer-whole :
+    (c v n : ℕ) (head body status : List ℕ) → length status ≡ 2 → n ≡ length body + 2
+    → head ≡ 1 ∷ c ∷ n % 256 ∷ n / 256 % 256 ∷ bytesOf v → head ++ (body ++ status) ≡ answerWith c v (body ++ status)
+answer-whole c v n head body status two e h =
+    let k : n ≡ length (body ++ status) = rw (length-append body) (omega arith) in
+    rw (h, k) refl
 
-module _ (c e v r : ℕ) (before after : List ℕ) (fits : longestAnswer ≤ length before) (h : Replies (answerBytes c e v) before r after) where
-  pub sent-whole : r ≡ length (framed (answerBytes c e v))
-  sent-whole = rw (le-leb (length (framed (answerBytes c e v))) (length before) (omega (arith, answer-most c e v))) at (h .sent)
+-- an answer longer than a packet may be is not sent
+pub too-long : (c v : ℕ) (body status buffer : List ℕ) → longest < length body → Replies (answerWith c v (body ++ status)) buffer 0 buffer
+too-long c v body status buffer h =
+    let k : longest < length (answerWith c v (body ++ status)) = omega (arith, length-append body status) in
+    let e = framing-long (answerWith c v (body ++ status)) buffer (omega arith) k in
+    record { sent = ap (λ (x : Framing). sentOf (x .report)) (sym e); buffer = ap (λ (x : Framing). x .buffer) (sym e) }
 
-  pub laid-whole : after ≡ lay before 0 (framed (answerBytes c e v))
-  laid-whole = rw (lay-fits before 0 (framed (answerBytes c e v)) (omega (arith, answer-most c e v))) at (h .buffer)
+module _ (c e v : ℕ) (b : Body) (short : length (bodyBytes b) ≤ 16) where
+  answer-length : length (answerBytes c e v b) ≤ 26
+  answer-length = omega (arith, length-append (bodyBytes b) (statusBytes e))
+
+  -- every answer fits the longest answer buffer
+  pub answer-most : length (framed (answerBytes c e v b)) ≤ longestAnswer
+  answer-most = omega (arith, length-framed (answerBytes c e v b), escaped-most (answerBytes c e v b), answer-length)
+
+  module _ (r : ℕ) (before after : List ℕ) (fits : longestAnswer ≤ length before) (h : Replies (answerBytes c e v b) before r after) where
+    written : framing (answerBytes c e v b) before ≡ record { report = wrote (length (framed (answerBytes c e v b))); buffer = lay before 0 (framed (answerBytes c e v b)) }
+    written = framing-written (answerBytes c e v b) before (omega arith) (omega (arith, answer-length)) (omega (arith, answer-most))
+
+    pub sent-whole : r ≡ length (framed (answerBytes c e v b))
+    sent-whole = rw written at (h .sent)
+
+    pub laid-whole : after ≡ lay before 0 (framed (answerBytes c e v b))
+    laid-whole = rw written at (h .buffer)

@@ -2,17 +2,18 @@
 use Prim.Native.Nat.{ℕ}
 use mathlib.Core.Path.{_≡_}
 use mathlib.Core.List.{List}
-use mathlib.Core.Bool.{cond}
-use lib.Dec.{leb}
-use lib.ListN.{length}
-use Rattle.lists.specs.Lay.{layIfFits}
-use Rattle.framing.specs.Frame.{framed}
+use Rattle.framing.specs.Frame.{FrameReport, refused, wrote, framing}
 
--- "answer room under 22 bytes": no framed answer is longer than ten bytes, each escaped to at most two, between two C0
+-- the least answer buffer, "2 now means under 54 bytes" (request Four): the longest answer is a digest's, 8 bytes of header, 16 of body and 2 of status, each escaped to at most two, between two C0
 abbrev pub longestAnswer : ℕ
-longestAnswer = 22
+longestAnswer = 54
 
--- bytes that are sent: framed at the front of the buffer, and how many; where they do not fit, none are
+-- how many bytes are to be sent: none where the framing routine refuses
+abbrev pub sentOf : FrameReport → ℕ
+sentOf (wrote n) = n
+sentOf (refused n) = 0
+
+-- bytes that are sent: framed at the front of the buffer, and how many; where they do not fit, or are longer than a packet may be, none are
 pub record Replies (bytes before : List ℕ) (r : ℕ) (after : List ℕ) : Type 0 where
-  pub sent : r ≡ cond (leb (length (framed bytes)) (length before)) (length (framed bytes)) 0
-  pub buffer : after ≡ layIfFits before 0 (framed bytes)
+  pub sent : r ≡ sentOf (framing bytes before .report)
+  pub buffer : after ≡ framing bytes before .buffer

@@ -1,11 +1,37 @@
-// The answer to a read packet: ten bytes, framed, at the front of the answer buffer.
+// The answer to a read packet, framed at the front of the answer buffer.
 use framing::Framed;
+use framing::LONGEST;
 ghost use mathlib.Core.Path.{_≡_};
-ghost use Rattle.answers.specs.Answer.{statusOf, answerBytes};
+ghost use mathlib.Core.List.{_++_, _∷_};
+ghost use Prim.Native.Nat.{_/_, _%_};
+ghost use Rattle.fields.specs.Words.{bytesOf};
+ghost use Rattle.answers.specs.Answer.{statusOf, statusBytes, plain, answerWith, answerBytes};
 ghost use Rattle.answers.specs.Reply.{Replies};
 
-// The least answer buffer: no framed answer is longer than ten bytes, each escaped to at most two, between two C0.
-pub const LONGEST_ANSWER: usize = 22;
+// The least answer buffer: no answer is longer than 26 bytes, 8 of header, 16 of digest and 2 of status, each escaped to at most two,
+// between two C0.
+pub const LONGEST_ANSWER: usize = 54;
+
+// How many status bytes end an answer.
+const STATUS_LENGTH: usize = 2;
+
+type StatusBytes = [u8; STATUS_LENGTH];
+
+// What stands before the status bytes: a digest, or nothing. The digest is then not looked at; `plain` has zeros.
+pub struct Body {
+    pub digested: bool,
+    pub digest: [u8; 16],
+}
+
+// Nothing before the status bytes: the plain body.
+pub fn plain() -> Body
+    ensures { λ r. ⌜ r ≡ plain ⌝ }
+{
+    Body {
+        digested: false,
+        digest: [0; 16],
+    }
+}
 
 // The status byte that is sent with an error byte.
 pub fn status_of(error: u8) -> u8
@@ -17,16 +43,47 @@ pub fn status_of(error: u8) -> u8
     1
 }
 
-// Writes an answer; how many bytes from the front of the buffer are to be sent. Where the buffer is too short for it, none; 22 bytes
-// hold every answer.
-pub fn reply(command: u8, error: u8, value: u32, answer: &mut [u8]) -> usize
-    ensures { λ r. ⌜ Replies (answerBytes command error value) (now (answer .entry)) r (now (answer .exit)) ⌝ }
+// The status bytes that end an answer.
+fn status_bytes(error: u8) -> StatusBytes
+    ensures { λ r. ⌜ r ≡ statusBytes error ⌝ }
 {
-    let status = status_of(error);
+    [status_of(error), error]
+}
+
+// The header of an answer whose body is so long.
+fn header(command: u8, value: u32, size: u32) -> [u8; 8]
+    ensures { λ r. ⌜ r ≡ 1 ∷ command ∷ size % 256 ∷ size / 256 % 256 ∷ bytesOf value ⌝ }
+{
     let v = fields::bytes_of(value);
-    let bytes: [u8; 10] = [1, command, 2, 0, v[0], v[1], v[2], v[3], status, error];
-    let Framed::Written(n) = framing::frame(&bytes, answer) else {
+    let s = fields::bytes_of(size);
+    [1, command, s[0], s[1], v[0], v[1], v[2], v[3]]
+}
+
+// Writes an answer with a body of any length and the status bytes behind it; how many bytes from the front of the buffer are to be sent.
+fn send(command: u8, value: u32, body: &[u8], status: &StatusBytes, answer: &mut [u8]) -> usize
+    ensures { λ r. ⌜ Replies (answerWith command value (now (body .entry) ++ now (status .entry)))
+        (now (answer .entry)) r (now (answer .exit)) ⌝ }
+{
+    if LONGEST < body.len() {
+        return 0;
+    }
+    let size = body.len() + STATUS_LENGTH;
+    let head = header(command, value, size as u32);
+    let Framed::Written(n) = framing::frame_parts(&head, body, status, answer) else {
         return 0;
     };
     n
+}
+
+// Writes an answer; how many bytes from the front of the buffer are to be sent. Where the buffer is too short for it, none; LONGEST_ANSWER
+// bytes hold every answer.
+pub fn reply(command: u8, error: u8, value: u32, body: Body, answer: &mut [u8]) -> usize
+    ensures { λ r. ⌜ Replies (answerBytes command error value body) (now (answer .entry)) r (now (answer .exit)) ⌝ }
+{
+    let status = status_bytes(error);
+    let digest = body.digest;
+    if body.digested {
+        return send(command, value, &digest, &status, answer);
+    }
+    send(command, value, b"", &status, answer)
 }

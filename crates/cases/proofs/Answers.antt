@@ -10,16 +10,17 @@ use Rattle.unframing.specs.Reasons.{whole}
 use Rattle.packets.specs.Packets.{header}
 use Rattle.unframing.specs.Line.{stepOf}
 use Rattle.unframing.specs.Line.{fresh}
-use Rattle.effects.specs.Notes.{Order}
+use Rattle.notes.specs.Notes.{Order}
 use Rattle.effects.specs.Handle.{replied, handle}
 use Rattle.answers.specs.Answer.{answerBytes}
+use Rattle.answers.specs.declared.Body.{Body}
 use Rattle.loader.specs.Step.{taken, answerBuffer, toldOf}
 use Rattle.cases.specs.Feeding.{Lending, begun, sentCount, sends}
 use Rattle.cases.proofs.Fed.{packet-fed, freshCore, allowed-fresh}
 
 -- the answer's bytes are what is sent
-pub answered-with : (r : Lending) (p : List ℕ) → 1 ≤ length p → length p ≤ longest → (c e v : ℕ) (order : Order)
-    → handle (freshCore r) (header (whole p)) .reply ≡ replied c e v order → sends r (framed p) ≡ framed (answerBytes c e v)
+pub answered-with : (r : Lending) (p : List ℕ) → 1 ≤ length p → length p ≤ longest → (c e v : ℕ) (b : Body) (order : Order)
+    → handle (freshCore r) (header (whole p)) .reply ≡ replied c e v b order → sends r (framed p) ≡ framed (answerBytes c e v b)
 unfolding sends begun stepOf sentCount toldOf answerBuffer lay
-answered-with r p filled fits c e v order h =
-    rw (packet-fed taken fresh (freshCore r) (r .packet) (r .answer) (allowed-fresh r) refl p filled fits, h) (take-at (framed (answerBytes c e v)) _ _ refl)
+answered-with r p filled fits c e v b order h =
+    rw (packet-fed taken fresh (freshCore r) (r .packet) (r .answer) (allowed-fresh r) refl p filled fits, h) (take-at (framed (answerBytes c e v b)) _ _ refl)

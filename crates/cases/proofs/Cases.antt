@@ -1,8 +1,8 @@
 -- The starred cases: equations of numbers and lists compute, and the others follow from the laws of a packet, a load and a link call.
 use Prim.Native.Nat.{ℕ}
-use mathlib.Core.Path.{_≡_, refl, ap, _∙_}
+use mathlib.Core.Path.{refl, ap, _∙_}
 use mathlib.Core.List.{List}
-use mathlib.Core.Bool.{true, false, and-false}
+use mathlib.Core.Bool.{and-false}
 use native.Mathlib.Omega.{arith}
 use Rattle.lists.specs.Bytes.{sameBytes, allAre}
 use Rattle.lists.specs.Checks.{first}
@@ -18,11 +18,11 @@ use Rattle.commands.specs.Parameters.{syncRule}
 use Rattle.errors.specs.Errors.{kind, plainChecks, checks, errorOf}
 use Rattle.effects.specs.Effects.{effect}
 use Rattle.effects.specs.Handle.{carriedOut, failed, handle}
-use Rattle.effects.specs.Notes.{no-order}
+use Rattle.answers.specs.Answer.{plain}
+use Rattle.notes.specs.Notes.{no-order}
 use Rattle.link_state.specs.Clock.{silence, stillDead}
-use Rattle.link_state.specs.Link.{fresh, withDead}
+use Rattle.link_state.specs.Link.{withDead}
 use Rattle.link_state.specs.declared.Link.{Link}
-use Rattle.link.specs.Step.{pollStep}
 use Rattle.link_frames.specs.Frames as frames
 use Rattle.cases.specs.Packets.{syncPacket, beginPacket}
 use Rattle.cases.specs.LinkCalls.{AliveAt, LostAt}
@@ -48,13 +48,13 @@ starred = record {
   case-1 = refl;
   case-2 = refl;
   case-3 = refl;
-  case-4 = λ r. answered-with r (syncPacket 36 32) (omega arith) (omega arith) 8 0 0 no-order refl;
-  case-5 = λ r. answered-with r (syncPacket 35 31) (omega arith) (omega arith) 8 0xC0 0 no-order refl;
+  case-4 = λ r. answered-with r (syncPacket 36 32) (omega arith) (omega arith) 8 0 0 plain no-order refl;
+  case-5 = λ r. answered-with r (syncPacket 35 31) (omega arith) (omega arith) 8 0xC0 0 plain no-order refl;
   case-6-rule = λ n. refl;
-  case-6-begin = λ r h. answered-with r (beginPacket 5000 5 1024 8192) (omega arith) (omega arith) 2 0 0 no-order (rw h);
+  case-6-begin = λ r h. answered-with r (beginPacket 5000 5 1024 8192) (omega arith) (omega arith) 2 0 0 plain no-order (rw h);
   case-6-erased = λ r h d₀ d₁ d₂ d₃ d₄ b₀ b₁ b₂ b₃ b₄ p. five-loaded r h d₀ d₁ d₂ d₃ d₄ b₀ b₁ b₂ b₃ b₄ p .erased;
-  case-7-4 = λ r. answered-with r (beginPacket 5000 4 1024 8192) (omega arith) (omega arith) 2 0xC5 0 no-order refl;
-  case-7-6 = λ r. answered-with r (beginPacket 5000 6 1024 8192) (omega arith) (omega arith) 2 0xC5 0 no-order refl;
+  case-7-4 = λ r. answered-with r (beginPacket 5000 4 1024 8192) (omega arith) (omega arith) 2 0xC5 0 plain no-order refl;
+  case-7-6 = λ r. answered-with r (beginPacket 5000 6 1024 8192) (omega arith) (omega arith) 2 0xC5 0 plain no-order refl;
   case-8 = refl;
   case-9 = refl;
   case-11-frame = refl;

@@ -79,7 +79,7 @@ module _ (r : Lending) where
   two more = ap (λ x. x ++ (lineOf 2 (toldFor (freshCore r) (endPacket 0)) ++ lines 3 ended more)) first-line ∙ ap (λ x. line1 ++ (x ++ lines 3 ended more)) second-line
 
 own-lengths : bufferLengths (replicate longest 0) (replicate longestAnswer 0) (replicate 0x10000 0xFF) (replicate 4096 0)
-    ≡ record { packet = 4120; answer = 22; flash = 0x10000; words = 4096 }
+    ≡ record { packet = 4120; answer = longestAnswer; flash = 0x10000; words = 4096 }
 own-lengths = simp length-replicate
 
 pub example : Example

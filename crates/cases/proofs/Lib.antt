@@ -3,6 +3,7 @@ pub mod Answers
 pub mod Blocks
 pub mod Linked
 pub mod Cases
+pub mod Digests
 pub mod Runs
 pub mod Calls
 pub mod Listing

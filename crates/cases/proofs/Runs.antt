@@ -31,7 +31,7 @@ Passes s = refusal (s .loader) (bufferLengths (s .packet) (s .answer) (s .flash)
 never-taken : (n : ℕ) (y : Reply) → toldOf n y ≡ taken → ⊥
 unfolding toldOf
 never-taken n (nothing w) e = let z : _≡_ {A = ℕ} 0 1 = cc in omega arith
-never-taken n (replied c x v order) e = let z : _≡_ {A = ℕ} 0 1 = cc in omega arith
+never-taken n (replied c x v b order) e = let z : _≡_ {A = ℕ} 0 1 = cc in omega arith
 
 closes-none : (o : Option Closed) (l : Line) (r : Loader) (packet answer flash words : List ℕ)
     → afterByte o l r packet answer flash words .told ≡ taken → o ≡ none

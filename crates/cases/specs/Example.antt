@@ -54,7 +54,7 @@ pub record Example : Type 0 where
   pub however-cut : (p : Page) (runs : List (List ℕ)) → listedRuns p runs ≡ listed p (joined runs)
   -- no call is left out: more of them than there are bytes come to the same, from every page and for every input
   pub calls-enough : (p : Page) (bytes : List ℕ) (n : ℕ) → calls (length bytes + n) p bytes ≡ listed p bytes
-  -- "64 KiB of 0xFF flash and 4,096 zero words": these are let pass, with a packet buffer of 4,120 bytes and an answer buffer of 22
+  -- "64 KiB of 0xFF flash and 4,096 zero words": these are let pass, with a packet buffer and an answer buffer of the least lengths
   pub own-buffers :
       first (bufferChecks (bufferLengths (replicate longest 0) (replicate longestAnswer 0) (replicate 0x10000 0xFF) (replicate 4096 0))) ≡ 0
   -- numbers are decimal

@@ -32,3 +32,9 @@ abbrev pub dataPacket : ℕ → List ℕ → List ℕ
 dataPacket sequence bytes =
     0x00 ∷ 0x03 ∷ 0x10 ∷ 0x04 ∷ (bytesOf (checksum bytes)
     ++ (bytesOf 1024 ++ (bytesOf sequence ++ (bytesOf 0 ++ (bytesOf 0 ++ bytes)))))
+
+-- SPI_FLASH_MD5: "address, size, 0, 0", with these four words
+abbrev pub digestPacket : ℕ → ℕ → ℕ → ℕ → List ℕ
+digestPacket address size third fourth =
+    0x00 ∷ 0x13 ∷ 0x10 ∷ 0x00 ∷ 0x00 ∷ 0x00 ∷ 0x00 ∷ 0x00
+    ∷ (bytesOf address ++ (bytesOf size ++ (bytesOf third ++ bytesOf fourth)))

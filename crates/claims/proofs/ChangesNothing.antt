@@ -15,7 +15,7 @@ use Rattle.runs.specs.Run.{runOf}
 use Rattle.commands.specs.Header.{command}
 use Rattle.errors.specs.Errors.{errorOf}
 use Rattle.effects.specs.Core.{Core, lengths}
-use Rattle.effects.specs.Notes.{Order}
+use Rattle.notes.specs.Notes.{Order}
 use Rattle.effects.specs.Handle.{Reply, nothing, replied, carriedOut, failed, handle}
 use Rattle.loader_state.specs.Refusals.{refusal}
 use Rattle.loader.specs.Step.{Step, refused, dropped, answered, step, refusing, coreOf, bufferLengths, answerBuffer, toldOf, afterPacket, afterByte}
@@ -46,14 +46,14 @@ module _ (stored : ℕ) (c : Core) where
 
 module _ (s : ByteStep) (r : Loader) (answer flash words : List ℕ) where
   -- what it comes to where its line bytes close o
-  abbrev after : Option Closed → Step
+  abbrev pub after : Option Closed → Step
   after o = afterByte o (s .line) r (s .buffer) answer flash words
 
   -- and where the packet x is closed
-  abbrev closing : ℕ → Packet → Step
+  abbrev pub closing : ℕ → Packet → Step
   closing stored x = afterPacket (s .line) stored (handle (coreOf r flash words) x) (s .buffer) answer
 
-  abbrev error : List ℕ → ℕ
+  abbrev pub error : List ℕ → ℕ
   error p = errorOf (lengths (coreOf r flash words)) (r .session) p
 
   -- it is not refused
@@ -64,11 +64,11 @@ module _ (s : ByteStep) (r : Loader) (answer flash words : List ℕ) where
     where
       never-told : (x : Reply) → toldOf (d .stored) x ≡ refused n → ⊥
       never-told (nothing w) e = let z : _≡_ {A = ℕ} 0 1 = cc in omega arith
-      never-told (replied c x v order) e = let z : _≡_ {A = ℕ} 0 1 = cc in omega arith
+      never-told (replied c x v b order) e = let z : _≡_ {A = ℕ} 0 1 = cc in omega arith
 
-  read-fails : (stored : ℕ) (p : List ℕ) → (error p ≡ 0 → ⊥) → closing stored (cut.read p) ≡ failing s stored (command p) (error p) r answer flash words
+  pub read-fails : (stored : ℕ) (p : List ℕ) → (error p ≡ 0 → ⊥) → closing stored (cut.read p) ≡ failing s stored (command p) (error p) r answer flash words
   unfolding afterPacket handle failed toldOf answerBuffer
-  read-fails stored p bad = let q : eqb (error p) 0 ≡ false = ne-eqb _ 0 bad in rw (q, q)
+  read-fails stored p bad = let q : eqb (error p) 0 ≡ false = ne-eqb _ 0 bad in rw (q, q) refl
 
   dropped-drops : (stored : ℕ) (w : Reason) → closing stored (cut.dropped w) ≡ dropping s stored w r answer flash words
   unfolding afterPacket handle toldOf answerBuffer
@@ -97,15 +97,15 @@ module _ (s : ByteStep) (r : Loader) (answer flash words : List ℕ) where
 -- ---- any call: s is what its line bytes come to, x what it comes to
 
 module _ (s : ByteStep) (r : Loader) (packet answer flash words : List ℕ) where
-  abbrev number : ℕ
+  abbrev pub number : ℕ
   number = refusal r (bufferLengths packet answer flash words)
 
   -- let pass or refused, by its number
-  abbrev judged : Bool → Step
+  abbrev pub judged : Bool → Step
   judged t = cond t (after s r answer flash words (s .closed)) (refusing number r packet answer flash words)
 
   module _ (x : Step) (is : x ≡ judged (eqb number 0)) where
-    passed : number ≡ 0 → x ≡ after s r answer flash words (s .closed)
+    pub passed : number ≡ 0 → x ≡ after s r answer flash words (s .closed)
     passed e = is ∙ rw e
 
     stopped : (number ≡ 0 → ⊥) → x ≡ refusing number r packet answer flash words
@@ -202,7 +202,7 @@ module _ (s : ByteStep) (r : Loader) (packet answer flash words : List ℕ) wher
 -- ---- a call with one byte
 
 module _ (r : Loader) (b : ℕ) (packet answer flash words : List ℕ) where
-  byte-judged :
+  pub byte-judged :
       step r b packet answer flash words
       ≡ judged (stepOf (r .line) b packet) r packet answer flash words (eqb (number (stepOf (r .line) b packet) r packet answer flash words) 0)
   unfolding step
@@ -219,10 +219,10 @@ failed-changes-nothing r b packet answer flash words =
 -- ---- a call with a run
 
 module _ (r : Loader) (run packet answer flash words : List ℕ) where
-  abbrev line-step : ByteStep
+  abbrev pub line-step : ByteStep
   line-step = runOf (r .line) run packet .step
 
-  run-judged :
+  pub run-judged :
       runStep r run packet answer flash words .step
       ≡ judged line-step r packet answer flash words (eqb (number line-step r packet answer flash words) 0)
   unfolding taking refusingRun

@@ -27,7 +27,7 @@ use Rattle.claims.proofs.Line.{single, take-singles, single-closings, s
 told-success : (n : ℕ) (r : Reply) → endsWell (toldOf n r) ≡ endSucceeds r
 unfolding endsWell toldOf endSucceeds
 told-success n (nothing w) = refl
-told-success n (replied c e v note) = go (eqb e 0)
+told-success n (replied c e v b note) = go (eqb e 0)
   where
     go : (t : Bool) → (eqb c FLASH-END && (eqb (cond t 0 1) 0 && t)) ≡ (eqb c FLASH-END && t)
     go true = refl

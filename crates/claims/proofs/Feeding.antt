@@ -72,7 +72,7 @@ module _ (s : State) (bad : refusalAt s ≡ 0 → ⊥) where
 closed-taken : (n : ℕ) (r : Reply) (b : ℕ) → ifRefused (toldOf n r) b ≡ []
 unfolding toldOf ifRefused
 closed-taken n (nothing w) b = refl
-closed-taken n (replied c e v order) b = refl
+closed-taken n (replied c e v body order) b = refl
 
 module _ (s : State) (good : refusalAt s ≡ 0) where
   abbrev m : Machine

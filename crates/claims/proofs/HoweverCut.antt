@@ -12,7 +12,6 @@ use Rattle.packets.specs.Packets.{header}
 use Rattle.unframing.specs.Line.{Closed, stepOf}
 use Rattle.unframing.proofs.Kept.{step-keeps}
 use Rattle.runs.proofs.Theorems.{takes-some}
-use Rattle.effects.specs.Handle.{handle}
 use Rattle.answers.specs.Reply.{longestAnswer}
 use Rattle.loader.specs.Step.{afterPacket, bufferLengths}
 use Rattle.loader.specs.RunStep.{taking}
@@ -106,11 +105,10 @@ module _ (s : State) (good : refusalAt s ≡ 0) (b : ℕ) where
       let m = s .machine in
       let buffers = bufferLengths (m .buffer) (s .answer) (m .flash) (m .words) in
       let p = let-pass (m .loader) buffers good in
-      let h = handle (coreAt m) (header (d .contents)) in
       let k = keeps (coreAt m) (header (d .contents)) (p .session) in
       let l = step-keeps (m .loader .line) b (m .buffer) in
       let a : longestAnswer ≤ length (s .answer) = for-answer buffers p in
-      rw (closing-step s good b [] e, l .long, ap (λ x. x .flash) (k .same-lengths), ap (λ x. x .words) (k .same-lengths), answer-buffer-length (h .reply) (s .answer) a)
+      rw (closing-step s good b [] e, l .long, ap (λ x. x .flash) (k .same-lengths), ap (λ x. x .words) (k .same-lengths), answer-buffer-length (coreAt m) (header (d .contents)) (s .answer) a)
       (no-refusal _ buffers
       (record { lent = p .lent; held = l .held (p .held); session = rw (k .same-lengths) at (k .session); attach = k .attach (p .attach) }))
 

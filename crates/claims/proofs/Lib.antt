@@ -1,5 +1,6 @@
 pub mod ChangesNothing
 pub mod Values
+pub mod Digest
 pub mod Passing
 pub mod RunLine
 pub mod Line

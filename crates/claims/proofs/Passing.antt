@@ -17,7 +17,8 @@ use Rattle.packets.proofs.Invariant.{Pend, pend-held}
 use Rattle.runs.specs.Run.{Run, runOf}
 use Rattle.effects.specs.Core.{Core}
 use Rattle.effects.specs.Handle.{Reply, nothing, replied, handle}
-use Rattle.answers.specs.Answer.{answerBytes}
+use Rattle.effects.proofs.Bodies.{Short, short}
+use Rattle.answers.specs.Answer.{bodyBytes, answerBytes}
 use Rattle.answers.specs.Reply.{longestAnswer}
 use Rattle.answers.proofs.Replies.{answer-most}
 use Rattle.loader_state.specs.Refusals.{BufferLengths, bufferChecks, lengthsOf, recordGood, refusal}
@@ -47,7 +48,7 @@ pub record Ready (m : Machine) (o : Option (List ℕ)) : Type 0 where
 pub told-never : (n : ℕ) (r : Reply) (k : ℕ) → toldOf n r ≡ refused k → ⊥
 unfolding toldOf
 told-never n (nothing w) k e = let z : _≡_ {A = ℕ} 0 1 = cc in omega arith
-told-never n (replied a b c d) k e = let z : _≡_ {A = ℕ} 0 1 = cc in omega arith
+told-never n (replied a b c d f) k e = let z : _≡_ {A = ℕ} 0 1 = cc in omega arith
 
 pub taken-never : (k : ℕ) → taken ≡ refused k → ⊥
 taken-never k e = let z : _≡_ {A = ℕ} 0 1 = cc in omega arith
@@ -55,17 +56,21 @@ taken-never k e = let z : _≡_ {A = ℕ} 0 1 = cc in omega arith
 pub closes-packet-one : (n : ℕ) (r : Reply) (f : List ℕ) → closingCall (toldOf n r) f ≡ record { told = toldOf n r; flash = f } ∷ []
 unfolding toldOf closingCall
 closes-packet-one n (nothing w) f = refl
-closes-packet-one n (replied a b c d) f = refl
+closes-packet-one n (replied a b c d e) f = refl
 
-pub answer-buffer-length : (r : Reply) (buffer : List ℕ) → longestAnswer ≤ length buffer → length (answerBuffer r buffer) ≡ length buffer
+answer-fits : (r : Reply) (buffer : List ℕ) → Short r → longestAnswer ≤ length buffer → length (answerBuffer r buffer) ≡ length buffer
 unfolding answerBuffer
-answer-buffer-length (nothing w) buffer h = refl
-answer-buffer-length (replied c e v note) buffer h = length-lay buffer 0 (framed (answerBytes c e v)) (omega (arith, answer-most c e v))
+answer-fits (nothing w) buffer s h = refl
+answer-fits (replied c e v b note) buffer s h = length-lay buffer 0 (framed (answerBytes c e v b)) (omega (arith, answer-most c e v b s))
+
+pub answer-buffer-length : (c : Core) (p : Packet) (buffer : List ℕ) → longestAnswer ≤ length buffer → length (answerBuffer (handle c p .reply) buffer) ≡ length buffer
+answer-buffer-length c p buffer h = answer-fits (handle c p .reply) buffer (short c p) h
 
 pub sent-by : (n : ℕ) (r : Reply) (buffer : List ℕ) → Valued r → Sent (toldOf n r) buffer (answerBuffer r buffer)
 unfolding Sent toldOf answerBuffer
 sent-by n (nothing w) buffer z = refl
-sent-by n (replied c e v note) buffer z = record { value = v; zero = z; counted = refl; front = refl }
+sent-by n (replied c e v b note) buffer z =
+    record { value = v; body = bodyBytes b; zero = z .0; digest = z .1; plain = z .2; counted = refl; front = refl }
 
 module _ (m : Machine) (c : Call) where
   abbrev pub buffers : BufferLengths

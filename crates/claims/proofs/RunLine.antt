@@ -184,7 +184,7 @@ module _ (m : Machine) (c : RunCall) (cs : List RunCall) (o : Option (List ℕ))
                 no-less = inr (closing-count line o w (take n (c .run)) d v);
               })
               (λ t. absurd-test (sym t ∙ h)) (sent-by _ _ (c .answer) (valued (coreAt m) (packetOf d))) k
-              (answer-buffer-length _ (c .answer) (run-long-enough m c h .answer))
+              (answer-buffer-length (coreAt m) (packetOf d) (c .answer) (run-long-enough m c h .answer))
               (ap (λ l. l .flash) (g .same-lengths)) (ap (λ l. l .words) (g .same-lengths)),
           f .each,
         );

@@ -8,7 +8,7 @@ use lib.ListN.{length, getD}
 use Rattle.lists.specs.Checks.{first}
 use Rattle.lists.specs.Lay.{lay}
 use Rattle.framing.specs.Frame.{framed}
-use Rattle.commands.specs.Numbers.{FLASH-END, READ-REG}
+use Rattle.commands.specs.Numbers.{FLASH-END, READ-REG, SPI-FLASH-MD5}
 use Rattle.answers.specs.Answer.{answerWith}
 use Rattle.loader_state.specs.Refusals.{bufferChecks}
 use Rattle.loader.specs.Step as loader
@@ -84,10 +84,15 @@ endsWell (answered n c s e sent order) = eqb c FLASH-END && (eqb s 0 && eqb e 0)
 -- the answer buffer where a command was answered: the answer with the command, status and error told, framed at its front, and its length told
 pub record AnswerSent (command status error sent : ℕ) (before after : List ℕ) : Type 0 where
   pub value : ℕ
+  -- what stands before the status bytes
+  pub body : List ℕ
   -- "value (4 bytes, zero but for a good READ_REG)"
   pub zero : (eqb command READ-REG && eqb error 0) ≡ false → value ≡ 0
-  pub counted : sent ≡ length (framed (answerWith command value (status ∷ error ∷ [])))
-  pub front : after ≡ lay before 0 (framed (answerWith command value (status ∷ error ∷ [])))
+  -- "16 raw bytes before the two status bytes" of a good SPI_FLASH_MD5 (request Four), and none of another command; "A failure has the plain two-byte body." Which sixteen says specs/Digest.
+  pub digest : (eqb command SPI-FLASH-MD5 && eqb error 0) ≡ true → length body ≡ 16
+  pub plain : (eqb command SPI-FLASH-MD5 && eqb error 0) ≡ false → body ≡ []
+  pub counted : sent ≡ length (framed (answerWith command value (body ++ (status ∷ error ∷ []))))
+  pub front : after ≡ lay before 0 (framed (answerWith command value (body ++ (status ∷ error ∷ []))))
 
 -- "On both lines what is sent, framed, fills the front of answer room; the rest, or all of it without an answer, stays.": what is told is what is sent
 unfoldable pub Sent : Told → List ℕ → List ℕ → Type 0

@@ -13,9 +13,9 @@ use Rattle.unframing.specs.declared.Reason.{Reason}
 use Rattle.runs.specs.Run.{runOf}
 use Rattle.commands.specs.Header.{command}
 use Rattle.errors.specs.Errors.{errorOf}
-use Rattle.answers.specs.Answer.{answerBytes}
+use Rattle.answers.specs.Answer.{plain, answerBytes}
 use Rattle.effects.specs.Core.{lengths}
-use Rattle.effects.specs.Notes.{Order, no-order}
+use Rattle.notes.specs.Notes.{Order, no-order}
 use Rattle.loader_state.specs.Refusals.{refusal}
 use Rattle.loader.specs.RunStep.{runStep}
 use Rattle.loader.specs.Step.{Step, refused, taken, dropped, answered, step, keeping, refusing, coreOf, bufferLengths}
@@ -57,11 +57,11 @@ EmptyRunChangesNothing =
       step = record { told = taken; loader = r; packet = packet; answer = answer; flash = flash; words = words };
     }
 
--- a command c that fails with the error e is answered; the line and the packet buffer are as the line bytes leave them, which come to s; all else stays
+-- a command c that fails with the error e is answered ("A failure has the plain two-byte body."); the line and the packet buffer are as the line bytes leave them, which come to s; all else stays
 abbrev pub failing : ByteStep → (stored c e : ℕ) → Loader → (answer flash words : List ℕ) → Step
 failing s stored c e r answer flash words =
-    keeping (answered stored c 1 e (length (framed (answerBytes c e 0))) no-order) (s .line) r (s .buffer)
-    (lay answer 0 (framed (answerBytes c e 0))) flash words
+    keeping (answered stored c 1 e (length (framed (answerBytes c e 0 plain))) no-order) (s .line) r (s .buffer)
+    (lay answer 0 (framed (answerBytes c e 0 plain))) flash words
 
 -- a dropped packet is told, with its reason, and not answered
 abbrev pub dropping : ByteStep → (stored : ℕ) → Reason → Loader → (answer flash words : List ℕ) → Step

@@ -1,4 +1,5 @@
 pub mod ChangesNothing
+pub mod Digest
 pub mod Calls
 pub mod CallHistory
 pub mod Demand3

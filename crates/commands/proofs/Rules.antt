@@ -1,19 +1,16 @@
 -- What the shape of a data command says of lengths, and the rule of a register of its place.
-use Prim.Native.Nat.{ℕ, _+_, _-_, _≤_, _<_}
+use Prim.Native.Nat.{ℕ, _+_, _-_, _≤_}
 use mathlib.Core.Path.{_≡_}
 use mathlib.Core.List.{List}
-use mathlib.Core.Bool.{true, _&&_}
+use mathlib.Core.Bool.{true}
 use native.Mathlib.Omega.{arith}
-use borrow.Author.Tests.{ltb-true, leb-true, eqb-true}
-use lib.Dec.{leb, ltb, eqb}
+use borrow.Author.Tests.{leb-true, eqb-true}
+use lib.Dec.{leb, eqb}
 use lib.ListN.{length, length-drop}
 use Rattle.lists.proofs.Tests.{both}
 use Rattle.fields.specs.Words.{word}
 use Rattle.commands.specs.Header.{sized, dataShaped}
-use Rattle.begins.specs.Begin.{memoryStart, memoryEnd}
 use Rattle.commands.specs.Block.{payload}
-use Rattle.commands.specs.Parameters.{inWords, registerRule, place}
-use Rattle.begins.specs.declared.Lengths.{Lengths}
 
 -- a packet past the shape and block size checks of a data command
 pub data-length : (p : List ℕ) (n : ℕ) → dataShaped p ≡ true → eqb (word p 8) n ≡ true → length p ≡ 24 + n
@@ -29,13 +26,3 @@ data-length p n h e =
 pub payload-length : (p : List ℕ) (n : ℕ) → dataShaped p ≡ true → eqb (word p 8) n ≡ true → length (payload p) ≡ n
 unfolding payload
 payload-length p n h e = rw (length-drop 24 p) (omega (arith, data-length p n h e))
-
--- a good register has a place among the words
-pub register-place : (l : Lengths) (a : ℕ) → registerRule l a ≡ true → place a < l .words
-unfolding registerRule inWords place
-register-place l a h =
-    let b = both (leb memoryStart a && ltb a (memoryEnd l)) _ h in
-    let c = both (leb memoryStart a) _ (b .0) in
-    let d : memoryStart ≤ a = leb-true _ _ (c .0) in
-    let e : a < memoryEnd l = ltb-true _ _ (c .1) in
-    omega arith

@@ -21,7 +21,7 @@ sized p = eqb (half p 2) (bodyLength p)
 unfoldable pub shaped : ℕ → List ℕ → Bool
 shaped n p = sized p && eqb (bodyLength p) n
 
--- the length of the four words before the data of a data command
+-- the length of four words: a whole body, or what stands before the data of a data command
 abbrev pub FOUR-WORDS : ℕ
 FOUR-WORDS = 16
 

@@ -1,4 +1,4 @@
--- The commands by their numbers: "FLASH_BEGIN 02", "FLASH_DATA 03", "FLASH_END 04", "MEM_BEGIN 05, MEM_DATA 07", "MEM_END 06", "SYNC 08", "WRITE_REG 09", "READ_REG 0A", "SPI_ATTACH 0D".
+-- The commands by their numbers: "FLASH_BEGIN 02", "FLASH_DATA 03", "FLASH_END 04", "MEM_BEGIN 05, MEM_DATA 07", "MEM_END 06", "SYNC 08", "WRITE_REG 09", "READ_REG 0A", "SPI_ATTACH 0D"; request Four: "SPI_FLASH_MD5 (13 hex)".
 use Prim.Native.Nat.{ℕ}
 
 abbrev pub FLASH-BEGIN : ℕ
@@ -30,3 +30,6 @@ READ-REG = 0x0A
 
 abbrev pub SPI-ATTACH : ℕ
 SPI-ATTACH = 0x0D
+
+abbrev pub SPI-FLASH-MD5 : ℕ
+SPI-FLASH-MD5 = 0x13

@@ -1,7 +1,7 @@
 -- The parameter rules of the other commands.
 use mathlib.Core.List.{List, [], _∷_}
 use mathlib.Core.Bool.{Bool, _&&_, _||_}
-use Prim.Native.Nat.{ℕ, _-_, _/_, _%_}
+use Prim.Native.Nat.{ℕ, _+_, _-_, _/_, _%_}
 use lib.Dec.{leb, ltb, eqb}
 use lib.ListN.{take, drop}
 use Rattle.lists.specs.Bytes.{sameBytes, allAre}
@@ -9,6 +9,7 @@ use Rattle.fields.specs.Words.{word}
 use Rattle.begins.specs.Begin.{memoryStart, memoryEnd}
 use Rattle.fields.specs.Places.{FIRST-WORD, SECOND-WORD, FOURTH-WORD}
 use Rattle.begins.specs.declared.Lengths.{Lengths}
+use Rattle.commands.specs.Block.{zeroWords}
 
 -- "one word, 0 reboot or 1 stay"
 unfoldable pub flashEndRule : List ℕ → Bool
@@ -33,6 +34,10 @@ registerRule l a = inWords l a && eqb (a % 4) 0
 -- WRITE_REG: "address, value, mask, delay. .. Delay must be 0 (house)."
 unfoldable pub writeRule : Lengths → List ℕ → Bool
 writeRule l p = registerRule l (word p FIRST-WORD) && eqb (word p FOURTH-WORD) 0
+
+-- SPI_FLASH_MD5 (request Four): "address, size, 0, 0"; "0xC5 for a nonzero third or fourth word or address plus size over the flash length"; "size 0 is allowed"
+unfoldable pub digestRule : Lengths → List ℕ → Bool
+digestRule l p = zeroWords p && leb (word p FIRST-WORD + word p SECOND-WORD) (l .flash)
 
 -- the place among the words of an address
 unfoldable pub place : ℕ → ℕ

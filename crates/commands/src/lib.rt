@@ -3,7 +3,7 @@ ghost use mathlib.Core.Path.{_≡_};
 ghost use Prim.Native.Nat.{_-_};
 ghost use Rattle.commands.specs.Header.{command, sized, shaped, dataShaped};
 ghost use Rattle.commands.specs.Block.{zeroWords, sumGood, paddingGood};
-ghost use Rattle.commands.specs.Parameters.{flashEndRule, inWords, memoryEndRule, syncRule, registerRule, writeRule, place};
+ghost use Rattle.commands.specs.Parameters.{flashEndRule, inWords, memoryEndRule, syncRule, registerRule, writeRule, digestRule, place};
 use fields::FIRST_WORD;
 use fields::FOURTH_WORD;
 use fields::HEADER;
@@ -37,7 +37,10 @@ pub const READ_REG: u8 = 0x0A;
 
 pub const SPI_ATTACH: u8 = 0x0D;
 
-// The four words before the data of a data command, and where the data begin.
+pub const SPI_FLASH_MD5: u8 = 0x13;
+
+// The length of four words: the whole body of a BEGIN, WRITE_REG or SPI_FLASH_MD5, and what stands before the data of a data command. Where
+// the data begin.
 pub const FOUR_WORDS: usize = 16;
 
 pub const DATA_AT: usize = 24;
@@ -162,6 +165,16 @@ pub fn write_good(lengths: Lengths, packet: &[u8]) -> bool
     let address = fields::word_at(packet, FIRST_WORD);
     let delay = fields::word_at(packet, FOURTH_WORD);
     register_good(lengths, address) & (delay == 0)
+}
+
+// Whether the bytes that SPI_FLASH_MD5 names lie in flash, and its other two words are 0.
+pub fn digest_good(lengths: Lengths, packet: &[u8]) -> bool
+    ensures { λ r. ⌜ r ≡ digestRule lengths (now (packet .entry)) ⌝ }
+{
+    let address = fields::word_at(packet, FIRST_WORD);
+    let size = fields::word_at(packet, SECOND_WORD);
+    let end = address as u64 + size as u64;
+    zero_words_good(packet) & (end <= lengths.flash as u64)
 }
 
 // The place among the words of an address.

@@ -7,6 +7,7 @@ use borrow.Author.Tests.{eqb-true, eqb-false, eq-eqb, ne-eqb}
 use lib.Dec.{eqb}
 use Rattle.lists.proofs.Tests.{Passed, passed-first, first-passed}
 use Rattle.packets.specs.Packets.{read}
+use Rattle.answers.specs.Answer.{plain}
 use Rattle.commands.specs.Header.{command}
 use Rattle.sessions.specs.Session.{sessionGood, ifSound}
 use Rattle.errors.specs.Errors.{kind, checks, errorOf}
@@ -14,7 +15,7 @@ use Rattle.sessions.specs.declared.Session.{Session}
 use Rattle.errors.proofs.Checks.{all-numbered}
 use Rattle.effects.specs.Core.{Core, lengths, withSession}
 use Rattle.effects.specs.Handle.{Handled, carriedOut, failed, handle, obeyed, Does}
-use Rattle.effects.specs.declared.Note.the-variants.{Nothing}
+use Rattle.notes.specs.declared.Note.the-variants.{Nothing}
 use Rattle.effects.specs.declared.Done.{Done}
 
 module _ (c : Core) (p : List ℕ) where
@@ -41,7 +42,7 @@ module _ (c : Core) (p : List ℕ) where
 module _
     (c : Core) (p : List ℕ) (s : Session) (error : ℕ) (found : s ≡ ifSound (lengths c) (c .session))
     (judged : error ≡ errorOf (lengths c) s p) where
-  pub obeyed-failed : (error ≡ 0 → ⊥) → (r : Done) → r ≡ record { error = error; session = c .session; attach = c .attach; value = 0; note = Nothing }
+  pub obeyed-failed : (error ≡ 0 → ⊥) → (r : Done) → r ≡ record { error = error; session = c .session; attach = c .attach; value = 0; body = plain; note = Nothing }
       → Does (obeyed c p) (command p) r (c .flash) (c .words)
   unfolding obeyed failed
   obeyed-failed bad r e =

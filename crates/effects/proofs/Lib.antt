@@ -2,3 +2,4 @@ pub mod Passing
 pub mod Fitting
 pub mod Carried
 pub mod Handled
+pub mod Bodies

@@ -1,8 +1,8 @@
--- What a command whose error is 0 has passed: the rule of its session, and the place of its register.
-use Prim.Native.Nat.{ℕ, _≤_, _<_}
-use mathlib.Core.Path.{_≡_, refl, sym, _∙_}
+-- What a command whose error is 0 has passed: the rule of its session, and what END's word may be.
+use Prim.Native.Nat.{ℕ, zero, suc, _≤_, min}
+use mathlib.Core.Path.{_≡_, refl, sym, ap, _∙_}
 use mathlib.Core.List.{List}
-use mathlib.Core.Bool.{Bool, true, false, _&&_, _||_}
+use mathlib.Core.Bool.{Bool, true, false, cond, _&&_, _||_}
 use native.Mathlib.Omega.{arith}
 use borrow.Author.Tests.{leb-true, eqb-true}
 use lib.Dec.{eqb}
@@ -12,10 +12,10 @@ use Rattle.begins.specs.Begin.{flashRule, memoryRule}
 use Rattle.begins.specs.declared.Lengths.{Lengths}
 use Rattle.begins.proofs.Rules.{Ruled, ruled, Inside, inside}
 use Rattle.commands.specs.Header.{command}
-use Rattle.commands.specs.Parameters.{flashEndRule, memoryEndRule, registerRule, writeRule, place}
-use Rattle.commands.proofs.Rules.{register-place}
+use Rattle.commands.specs.Parameters.{flashEndRule, memoryEndRule}
+use Rattle.notes.specs.Notes.{end-word, end-jump}
 use Rattle.sessions.specs.Session.{flashOpen, memoryOpen, announced, sessionGood}
-use Rattle.errors.specs.Errors.{kind, checks, plainChecks, errorOf}
+use Rattle.errors.specs.Errors.{kind, checks, errorOf}
 use Rattle.sessions.specs.declared.Session.{Session}
 use Rattle.sessions.specs.declared.Session.the-variants.{Closed, Flash, Memory}
 use Rattle.errors.proofs.Checks.{all-numbered, DataPassed, data-passed, end-passed}
@@ -43,14 +43,6 @@ module _ (l : Lengths) (s : Session) (p : List ℕ) (c : ℕ) (is : c ≡ comman
   unfolding errorOf
   passed n e = first-passed _ (all-numbered l s (kind n) p) (rw (sym is ∙ e) at good)
 
-  pub written-place : c ≡ 0x09 → place (word p 8) < l .words
-  unfolding kind checks plainChecks writeRule
-  written-place e = register-place l (word p 8) (both (registerRule l (word p 8)) _ (passed 0x09 e .1 .0) .0)
-
-  pub read-place : c ≡ 0x0A → place (word p 8) < l .words
-  unfolding kind checks plainChecks
-  read-place e = register-place l (word p 8) (passed 0x0A e .1 .0)
-
   pub flash-data : c ≡ 0x03 → DataPassed (flashOpen s) s p
   unfolding kind checks
   flash-data e = data-passed (flashOpen s) s p (passed 0x03 e)
@@ -67,6 +59,12 @@ module _ (l : Lengths) (s : Session) (p : List ℕ) (c : ℕ) (is : c ≡ comman
   unfolding kind checks memoryEndRule
   memory-word e = at-most-1 (word p 8) _ _ refl (end-passed _ _ _ s (passed 0x06 e) .is-ruled)
 
--- a register's place, in the numbers that the code has
-pub placed : (p : List ℕ) (at a n : ℕ) → at ≡ place a → a ≡ word p 8 → place (word p 8) < n → at < n
-placed p at a n e f h = rw (e, f) h
+-- a word that is 0 or 1 is told as it is
+pub flash-told : (w : ℕ) → w ≤ 1 → end-word (min w 1) ≡ end-word w
+flash-told w h = ap end-word (omega arith)
+
+pub memory-told : (w entry : ℕ) → w ≤ 1
+    → cond (eqb w 0) (end-jump 0 entry) (end-word 1) ≡ cond (eqb w 0) (end-jump w entry) (end-word w)
+memory-told zero entry h = refl
+memory-told (suc zero) entry h = refl
+memory-told (suc (suc w)) entry h = absurd (omega arith)

@@ -1,37 +1,43 @@
--- What a good command does, a row for each: what it leaves, the value of its answer, what the caller is told.
+-- What a good command does, a row for each: what it leaves, the value of its answer and what stands there before the status bytes, what the caller is told.
 use mathlib.Core.List.{List}
 use mathlib.Core.Bool.{cond}
 use Prim.Native.Nat.{ℕ}
 use lib.Dec.{eqb}
-use lib.ListN.{getD, set}
+use lib.ListN.{take, drop}
 use Rattle.fields.specs.Words.{word}
-use Rattle.fields.specs.Merge.{merged}
-use Rattle.fields.specs.Places.{FIRST-WORD, SECOND-WORD, THIRD-WORD}
+use Rattle.fields.specs.Places.{FIRST-WORD, SECOND-WORD}
+use Rattle.digest.specs.Digest.{md5Of}
+use Rattle.answers.specs.Answer.{plain, withDigest}
+use Rattle.answers.specs.declared.Body.{Body}
 use Rattle.begins.specs.Begin.{beginOf}
 use Rattle.commands.specs.Block.{payload}
-use Rattle.commands.specs.Parameters.{place}
+use Rattle.registers.specs.Registers.{registerRead, registerWritten}
 use Rattle.sessions.specs.Session.{announced, accepted, advanced}
-use Rattle.errors.specs.Errors.{Kind, flash-begin, flash-data, flash-end, memory-begin, memory-end, memory-data, sync, write-reg, read-reg, spi-attach, unknown}
+use Rattle.errors.specs.Errors.{Kind, flash-begin, flash-data, flash-end, memory-begin, memory-end, memory-data, sync, write-reg, read-reg, spi-attach, flash-digest, unknown}
 use Rattle.sessions.specs.declared.Session.the-variants.{Closed, Flash, Memory}
 use Rattle.blocks.specs.Flash.{flashBlock}
 use Rattle.blocks.specs.Memory.{wordsBlock}
 use Rattle.effects.specs.Core.{Core, withSession, withAttach, withFlash, withWords}
-use Rattle.effects.specs.Notes.{Order, no-order, end-word, end-jump}
+use Rattle.notes.specs.Notes.{Order, no-order, end-word, end-jump}
 
 pub record Effect : Type 0 where
   pub core : Core
   pub value : ℕ
+  pub body : Body
   pub order : Order
 
 -- "value (4 bytes, zero but for a good READ_REG)": a command that tells nothing
 abbrev pub leaves : Core → Effect
-leaves c = record { core = c; value = 0; order = no-order }
+leaves c = record { core = c; value = 0; body = plain; order = no-order }
 
 abbrev pub reads : Core → ℕ → Effect
-reads c v = record { core = c; value = v; order = no-order }
+reads c v = record { core = c; value = v; body = plain; order = no-order }
+
+abbrev pub digests : Core → List ℕ → Effect
+digests c d = record { core = c; value = 0; body = withDigest d; order = no-order }
 
 abbrev pub tells : Core → Order → Effect
-tells c order = record { core = c; value = 0; order = order }
+tells c order = record { core = c; value = 0; body = plain; order = order }
 
 -- the open session's next block is accepted
 abbrev pub accepts : Core → Core
@@ -53,11 +59,11 @@ effect memory-end c p =
     tells (withSession c Closed)
     (cond (eqb (word p FIRST-WORD) 0) (end-jump (word p FIRST-WORD) (word p SECOND-WORD)) (end-word (word p FIRST-WORD)))
 effect sync c p = leaves c
--- "Bits under the mask come from the value, the others stay."
-effect write-reg c p =
-    leaves (withWords c (set (c .words) (place (word p FIRST-WORD)) (merged (getD (c .words) (place (word p FIRST-WORD)) 0) (word p SECOND-WORD) (word p THIRD-WORD))))
--- "the word is the value"
-effect read-reg c p = reads c (getD (c .words) (place (word p FIRST-WORD)) 0)
+-- the word under the address is merged with the value under the mask, or read
+effect write-reg c p = leaves (withWords c (registerWritten p (c .words)))
+effect read-reg c p = reads c (registerRead p (c .words))
 -- "Accepted words are kept in the record, 0 when fresh."
 effect spi-attach c p = leaves (withAttach c (word p FIRST-WORD))
+-- "Flash is read where it stands, any open session included and unchanged": the digest of size bytes from the address on
+effect flash-digest c p = digests c (md5Of (take (word p SECOND-WORD) (drop (word p FIRST-WORD) (c .flash))))
 effect unknown c p = leaves c

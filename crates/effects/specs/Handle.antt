@@ -6,17 +6,19 @@ use Prim.Native.Nat.{ℕ}
 use lib.Dec.{eqb}
 use Rattle.packets.specs.Packets.{Packet, dropped, read}
 use Rattle.unframing.specs.declared.Reason.{Reason}
+use Rattle.answers.specs.Answer.{plain}
+use Rattle.answers.specs.declared.Body.{Body}
 use Rattle.commands.specs.Header.{command}
 use Rattle.errors.specs.Errors.{kind, errorOf}
 use Rattle.effects.specs.Core.{Core, lengths, soundOnly}
-use Rattle.effects.specs.Notes.{Order, no-order, noted}
+use Rattle.notes.specs.Notes.{Order, no-order, noted}
 use Rattle.effects.specs.Effects.{effect}
 use Rattle.effects.specs.declared.Done.{Done}
 
--- what a packet is answered with: nothing, and why it was dropped; or its command with an error, a value, and what the caller is told
+-- what a packet is answered with: nothing, and why it was dropped; or its command with an error, a value, what stands before the status bytes, and what the caller is told
 pub data Reply : Type 0 where
   nothing : Reason → Reply
-  replied : (command error value : ℕ) → Order → Reply
+  replied : (command error value : ℕ) → Body → Order → Reply
 
 pub record Handled : Type 0 where
   pub reply : Reply
@@ -26,13 +28,13 @@ pub record Handled : Type 0 where
 unfoldable pub carriedOut : Core → List ℕ → Handled
 carriedOut c p =
     record {
-      reply = replied (command p) 0 (effect (kind (command p)) c p .value) (effect (kind (command p)) c p .order);
+      reply = replied (command p) 0 (effect (kind (command p)) c p .value) (effect (kind (command p)) c p .body) (effect (kind (command p)) c p .order);
       core = effect (kind (command p)) c p .core;
     }
 
--- a command that failed
+-- a command that failed: "A failure has the plain two-byte body."
 unfoldable pub failed : Core → List ℕ → ℕ → Handled
-failed c p error = record { reply = replied (command p) error 0 no-order; core = c }
+failed c p error = record { reply = replied (command p) error 0 plain no-order; core = c }
 
 unfoldable pub handle : Core → Packet → Handled
 handle c (dropped w) = record { reply = nothing w; core = c }
@@ -50,7 +52,7 @@ obeyed c p =
 
 -- the command's answer and all that it leaves are those of h
 pub record Does (h : Handled) (number : ℕ) (r : Done) (flash words : List ℕ) : Type 0 where
-  pub reply : h .reply ≡ replied number (r .error) (r .value) (noted (r .note))
+  pub reply : h .reply ≡ replied number (r .error) (r .value) (r .body) (noted (r .note))
   pub session : r .session ≡ h .core .session
   pub attach : r .attach ≡ h .core .attach
   pub in-flash : flash ≡ h .core .flash

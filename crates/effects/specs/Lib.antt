@@ -1,4 +1,3 @@
 pub mod Core
-pub mod Notes
 pub mod Effects
 pub mod Handle

@@ -1,4 +1,6 @@
 // A read packet's command: its error, or what it does.
+use answers::Body;
+use answers::plain;
 use begins::Lengths;
 use commands::FLASH_BEGIN;
 use commands::FLASH_DATA;
@@ -8,71 +10,75 @@ use commands::MEM_DATA;
 use commands::MEM_END;
 use commands::READ_REG;
 use commands::SPI_ATTACH;
+use commands::SPI_FLASH_MD5;
 use commands::SYNC;
 use commands::WRITE_REG;
 use fields::FIRST_WORD;
 use fields::SECOND_WORD;
-use fields::THIRD_WORD;
+use notes::Note;
 use sessions::Session;
 ghost use mathlib.Core.Path.{_≡_};
-ghost use mathlib.Core.Bool.{true, cond};
-ghost use Prim.Native.Nat.{_+_, _^_, _≤_, _<_};
-ghost use lib.Dec.{eqb};
-ghost use lib.ListN.{length, getD, set};
-ghost use Rattle.fields.specs.Places.{FIRST-WORD, SECOND-WORD, THIRD-WORD};
+ghost use mathlib.Core.Bool.{true};
+ghost use Prim.Native.Nat.{_+_, _^_, _<_};
+ghost use lib.ListN.{length, take, drop};
+ghost use Rattle.fields.specs.Places.{FIRST-WORD, SECOND-WORD};
 ghost use Rattle.fields.specs.Words.{word};
-ghost use Rattle.fields.specs.Merge.{merged};
+ghost use Rattle.digest.specs.Digest.{md5Of};
+ghost use Rattle.answers.specs.Answer.{plain, withDigest};
 ghost use Rattle.commands.specs.Header.{command};
-ghost use Rattle.commands.specs.Parameters.{place};
 ghost use Rattle.sessions.specs.Session.{accepted, advanced, sessionGood};
 ghost use Rattle.errors.specs.Errors.{errorOf};
-ghost use Rattle.effects.specs.Notes.{noted, end-word, end-jump};
 ghost use Rattle.effects.specs.Handle.{carriedOut, obeyed, Does};
 
-// What END asks of the caller, to be done once the answer has been sent.
-pub enum Note {
-    // nothing: no END, or one that failed
-    Nothing,
-    // reboot
-    Reboot,
-    // stay in the loader: go on feeding bytes
-    Stay,
-    // jump to this address
-    Jump(u32),
-}
-
-// What a command comes to, flash and words apart: its error, the session and attach word after it, the value of its answer,
-// and what the caller is told.
+// What a command comes to, flash and words apart: its error, the session and attach word after it, the value of its answer and what stands
+// there before the status bytes, and what the caller is told.
 pub struct Done {
     pub error: u8,
     pub session: Session,
     pub attach: u32,
     pub value: u32,
+    pub body: Body,
     pub note: Note,
 }
 
 // A result with no value and nothing told.
 fn leaving(error: u8, session: Session, attach: u32) -> Done
-    ensures { λ r. ⌜ r ≡ record { error = error; session = session; attach = attach; value = 0; note = Note.Nothing } ⌝ }
+    ensures { λ r. ⌜ r ≡ record { error = error; session = session; attach = attach; value = 0; body = plain; note = Note.Nothing } ⌝ }
 {
     Done {
         error,
         session,
         attach,
         value: 0,
+        body: plain(),
+        note: Note::Nothing,
+    }
+}
+
+// A good command that leaves all as it is and answers with a value and a body.
+fn answering(session: Session, attach: u32, value: u32, body: Body) -> Done
+    ensures { λ r. ⌜ r ≡ record { error = 0; session = session; attach = attach; value = value; body = body; note = Note.Nothing } ⌝ }
+{
+    Done {
+        error: 0,
+        session,
+        attach,
+        value,
+        body,
         note: Note::Nothing,
     }
 }
 
 // A session that END closes, with what it tells.
 fn ending(attach: u32, note: Note) -> Done
-    ensures { λ r. ⌜ r ≡ record { error = 0; session = Session.Closed; attach = attach; value = 0; note = note } ⌝ }
+    ensures { λ r. ⌜ r ≡ record { error = 0; session = Session.Closed; attach = attach; value = 0; body = plain; note = note } ⌝ }
 {
     Done {
         error: 0,
         session: Session::Closed,
         attach,
         value: 0,
+        body: plain(),
         note,
     }
 }
@@ -89,53 +95,18 @@ fn advanced_by(session: Session) -> Session
     }
 }
 
-// WRITE_REG: the merged word in its place.
-fn write_register(packet: &[u8], words: &mut [u32])
-    requires { ⌜ place (word (now packet) FIRST-WORD) < length (now words) ⌝ }
-    ensures { λ r. ⌜ now (words .exit) ≡ set (now (words .entry)) (place (word (now (packet .entry)) FIRST-WORD))
-        (merged (getD (now (words .entry)) (place (word (now (packet .entry)) FIRST-WORD)) 0)
-        (word (now (packet .entry)) SECOND-WORD) (word (now (packet .entry)) THIRD-WORD)) ⌝ }
+// SPI_FLASH_MD5: the digest of the bytes named.
+fn digest_body(packet: &[u8], flash: &[u8]) -> Body
+    ensures { λ r. ⌜ r ≡ withDigest (md5Of (take (word (now (packet .entry)) SECOND-WORD)
+        (drop (word (now (packet .entry)) FIRST-WORD) (now (flash .entry))))) ⌝ }
 {
-    let at = commands::place_of(fields::word_at(packet, FIRST_WORD) as u64);
-    let old = words[at];
-    words[at] = fields::merge(
-        old,
-        fields::word_at(packet, SECOND_WORD),
-        fields::word_at(packet, THIRD_WORD),
-    );
-}
-
-// READ_REG: the word in its place.
-fn read_register(packet: &[u8], words: &[u32]) -> u32
-    requires { ⌜ place (word (now packet) FIRST-WORD) < length (now words) ⌝ }
-    ensures { λ r. ⌜ r ≡ getD (now (words .entry)) (place (word (now (packet .entry)) FIRST-WORD)) 0 ⌝ }
-{
-    let at = commands::place_of(fields::word_at(packet, FIRST_WORD) as u64);
-    words[at]
-}
-
-// FLASH_END: 0 reboots, 1 stays.
-fn flash_note(packet: &[u8]) -> Note
-    requires { ⌜ word (now packet) FIRST-WORD ≤ 1 ⌝ }
-    ensures { λ r. ⌜ noted r ≡ end-word (word (now (packet .entry)) FIRST-WORD) ⌝ }
-{
-    if fields::word_at(packet, FIRST_WORD) == 0 {
-        return Note::Reboot;
+    let address = fields::word_at(packet, FIRST_WORD) as usize;
+    let size = fields::word_at(packet, SECOND_WORD) as usize;
+    let digest = digest::md5(flash, address, size);
+    Body {
+        digested: true,
+        digest,
     }
-    Note::Stay
-}
-
-// MEM_END: 0 jumps to the entry, 1 stays.
-fn memory_note(packet: &[u8]) -> Note
-    requires { ⌜ word (now packet) FIRST-WORD ≤ 1 ⌝ }
-    ensures { λ r. ⌜ noted r ≡ cond (eqb (word (now (packet .entry)) FIRST-WORD) 0)
-        (end-jump (word (now (packet .entry)) FIRST-WORD) (word (now (packet .entry)) SECOND-WORD))
-        (end-word (word (now (packet .entry)) FIRST-WORD)) ⌝ }
-{
-    if fields::word_at(packet, FIRST_WORD) == 0 {
-        return Note::Jump(fields::word_at(packet, SECOND_WORD));
-    }
-    Note::Stay
 }
 
 // A command whose error is 0, carried out.
@@ -165,9 +136,9 @@ fn carry_out(
             );
             leaving(0, advanced_by(session), attach)
         }
-        FLASH_END => ending(attach, flash_note(packet)),
+        FLASH_END => ending(attach, notes::flash_note(packet)),
         MEM_BEGIN => leaving(0, Session::Memory(begins::begin_of(packet), 0), attach),
-        MEM_END => ending(attach, memory_note(packet)),
+        MEM_END => ending(attach, notes::memory_note(packet)),
         MEM_DATA => {
             blocks::write_words(
                 sessions::announced_by(session),
@@ -179,17 +150,12 @@ fn carry_out(
         }
         SYNC => leaving(0, session, attach),
         WRITE_REG => {
-            write_register(packet, words);
+            registers::write(packet, words);
             leaving(0, session, attach)
         }
-        READ_REG => Done {
-            error: 0,
-            session,
-            attach,
-            value: read_register(packet, words),
-            note: Note::Nothing,
-        },
+        READ_REG => answering(session, attach, registers::read(packet, words), plain()),
         SPI_ATTACH => leaving(0, session, fields::word_at(packet, FIRST_WORD)),
+        SPI_FLASH_MD5 => answering(session, attach, 0, digest_body(packet, flash)),
         // No other command has the error 0.
         _ => leaving(0, session, attach),
     }

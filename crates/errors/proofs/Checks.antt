@@ -11,10 +11,10 @@ use Rattle.commands.specs.Header.{dataShaped}
 use Rattle.begins.specs.declared.Lengths.{Lengths}
 use Rattle.commands.specs.Block.{zeroWords, sumGood, paddingGood}
 use Rattle.sessions.specs.Session.{announced, accepted}
-use Rattle.errors.specs.Errors.{Kind, kind, flash-begin, flash-data, flash-end, memory-begin, memory-end, memory-data, sync, write-reg, read-reg, spi-attach, unknown, plainChecks, endChecks, dataChecks, checks}
+use Rattle.errors.specs.Errors.{Kind, kind, flash-begin, flash-data, flash-end, memory-begin, memory-end, memory-data, sync, write-reg, read-reg, spi-attach, flash-digest, unknown, plainChecks, endChecks, dataChecks, checks}
 use Rattle.sessions.specs.declared.Session.{Session}
 
--- the number of a command that the grammar speaks of, by its kind
+-- a command's kind, with the number of those that the grammar and the answers speak of
 pub data Is (c : ℕ) : Kind → Type 0 where
   is-flash-begin : c ≡ 0x02 → Is c flash-begin
   is-flash-data : c ≡ 0x03 → Is c flash-data
@@ -24,29 +24,31 @@ pub data Is (c : ℕ) : Kind → Type 0 where
   is-memory-data : Is c memory-data
   is-sync : Is c sync
   is-write-reg : Is c write-reg
-  is-read-reg : Is c read-reg
+  is-read-reg : c ≡ 0x0A → Is c read-reg
   is-spi-attach : Is c spi-attach
+  is-flash-digest : c ≡ 0x13 → Is c flash-digest
   is-unknown : Is c unknown
 
 pub is : (c : ℕ) → Is c (kind c)
 unfolding kind
-is c = go _ _ _ _ (eqb c 6) (eqb c 7) (eqb c 8) (eqb c 9) (eqb c 10) (eqb c 13) refl refl refl refl
+is c = go _ _ _ _ (eqb c 6) (eqb c 7) (eqb c 8) (eqb c 9) _ (eqb c 13) _ refl refl refl refl refl refl
   where
-    go : (a b d e f g h i j k : Bool) → eqb c 2 ≡ a → eqb c 3 ≡ b → eqb c 4 ≡ d → eqb c 5 ≡ e
+    go : (a b d e f g h i j k l : Bool) → eqb c 2 ≡ a → eqb c 3 ≡ b → eqb c 4 ≡ d → eqb c 5 ≡ e → eqb c 10 ≡ j → eqb c 19 ≡ l
         → Is c
         (cond a flash-begin (cond b flash-data (cond d flash-end (cond e memory-begin (cond f memory-end (cond g memory-data
-        (cond h sync (cond i write-reg (cond j read-reg (cond k spi-attach unknown))))))))))
-    go true b d e f g h i j k p q r s = is-flash-begin (eqb-true c 2 p)
-    go false true d e f g h i j k p q r s = is-flash-data (eqb-true c 3 q)
-    go false false true e f g h i j k p q r s = is-flash-end (eqb-true c 4 r)
-    go false false false true f g h i j k p q r s = is-memory-begin (eqb-true c 5 s)
-    go false false false false true g h i j k p q r s = is-memory-end
-    go false false false false false true h i j k p q r s = is-memory-data
-    go false false false false false false true i j k p q r s = is-sync
-    go false false false false false false false true j k p q r s = is-write-reg
-    go false false false false false false false false true k p q r s = is-read-reg
-    go false false false false false false false false false true p q r s = is-spi-attach
-    go false false false false false false false false false false p q r s = is-unknown
+        (cond h sync (cond i write-reg (cond j read-reg (cond k spi-attach (cond l flash-digest unknown)))))))))))
+    go true b d e f g h i j k l p q r s t u = is-flash-begin (eqb-true c 2 p)
+    go false true d e f g h i j k l p q r s t u = is-flash-data (eqb-true c 3 q)
+    go false false true e f g h i j k l p q r s t u = is-flash-end (eqb-true c 4 r)
+    go false false false true f g h i j k l p q r s t u = is-memory-begin (eqb-true c 5 s)
+    go false false false false true g h i j k l p q r s t u = is-memory-end
+    go false false false false false true h i j k l p q r s t u = is-memory-data
+    go false false false false false false true i j k l p q r s t u = is-sync
+    go false false false false false false false true j k l p q r s t u = is-write-reg
+    go false false false false false false false false true k l p q r s t u = is-read-reg (eqb-true c 10 t)
+    go false false false false false false false false false true l p q r s t u = is-spi-attach
+    go false false false false false false false false false false true p q r s t u = is-flash-digest (eqb-true c 19 u)
+    go false false false false false false false false false false false p q r s t u = is-unknown
 
 pub all-numbered : (l : Lengths) (s : Session) (k : Kind) (p : List ℕ) → numbered (checks l s k p) ≡ true
 unfolding checks plainChecks endChecks dataChecks
@@ -60,6 +62,7 @@ all-numbered l s sync p = refl
 all-numbered l s write-reg p = refl
 all-numbered l s read-reg p = refl
 all-numbered l s spi-attach p = refl
+all-numbered l s flash-digest p = refl
 all-numbered l s unknown p = refl
 
 -- a data command past every check

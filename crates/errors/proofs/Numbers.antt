@@ -16,24 +16,25 @@ pub error-at :
 unfolding errorOf
 error-at l s p n c e a b h = rw (sym a ∙ b) h
 
--- a number that is none of the ten, as a `match` on all of them leaves it
-pub kind-none : (c : ℕ) → ((((((((((Unit {0} × (c ≡ 0x02 → ⊥)) × (c ≡ 0x03 → ⊥)) × (c ≡ 0x04 → ⊥)) × (c ≡ 0x05 → ⊥)) × (c ≡ 0x06 → ⊥)) × (c ≡ 0x07 → ⊥)) × (c ≡ 0x08 → ⊥)) × (c ≡ 0x09 → ⊥)) × (c ≡ 0x0A → ⊥)) × (c ≡ 0x0D → ⊥)) → kind c ≡ unknown
+-- a number that is no command's, as a `match` on all of them leaves it
+pub kind-none : (c : ℕ) → (((((((((((Unit {0} × (c ≡ 0x02 → ⊥)) × (c ≡ 0x03 → ⊥)) × (c ≡ 0x04 → ⊥)) × (c ≡ 0x05 → ⊥)) × (c ≡ 0x06 → ⊥)) × (c ≡ 0x07 → ⊥)) × (c ≡ 0x08 → ⊥)) × (c ≡ 0x09 → ⊥)) × (c ≡ 0x0A → ⊥)) × (c ≡ 0x0D → ⊥)) × (c ≡ 0x13 → ⊥)) → kind c ≡ unknown
 unfolding kind
 kind-none c h =
     rw (
-      ne-eqb c 0x02 (h .0 .0 .0 .0 .0 .0 .0 .0 .0 .1),
-      ne-eqb c 0x03 (h .0 .0 .0 .0 .0 .0 .0 .0 .1),
-      ne-eqb c 0x04 (h .0 .0 .0 .0 .0 .0 .0 .1),
-      ne-eqb c 0x05 (h .0 .0 .0 .0 .0 .0 .1),
-      ne-eqb c 0x06 (h .0 .0 .0 .0 .0 .1),
-      ne-eqb c 0x07 (h .0 .0 .0 .0 .1),
-      ne-eqb c 0x08 (h .0 .0 .0 .1),
-      ne-eqb c 0x09 (h .0 .0 .1),
-      ne-eqb c 0x0A (h .0 .1),
-      ne-eqb c 0x0D (h .1),
+      ne-eqb c 0x02 (h .0 .0 .0 .0 .0 .0 .0 .0 .0 .0 .1),
+      ne-eqb c 0x03 (h .0 .0 .0 .0 .0 .0 .0 .0 .0 .1),
+      ne-eqb c 0x04 (h .0 .0 .0 .0 .0 .0 .0 .0 .1),
+      ne-eqb c 0x05 (h .0 .0 .0 .0 .0 .0 .0 .1),
+      ne-eqb c 0x06 (h .0 .0 .0 .0 .0 .0 .1),
+      ne-eqb c 0x07 (h .0 .0 .0 .0 .0 .1),
+      ne-eqb c 0x08 (h .0 .0 .0 .0 .1),
+      ne-eqb c 0x09 (h .0 .0 .0 .1),
+      ne-eqb c 0x0A (h .0 .0 .1),
+      ne-eqb c 0x0D (h .0 .1),
+      ne-eqb c 0x13 (h .1),
     )
 
--- a command that is none of the ten
+-- a command that is none of them
 pub error-none : (l : Lengths) (s : Session) (p : List ℕ) (c : ℕ) → c ≡ command p → kind c ≡ unknown → errorOf l s p ≡ unknownCommand
 unfolding errorOf checks first
 error-none l s p c a k = rw (← a, k)

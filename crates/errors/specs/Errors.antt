@@ -7,11 +7,11 @@ use Rattle.lists.specs.Checks.{Check, _orElse_, first}
 use Rattle.fields.specs.Places.{FIRST-WORD, SECOND-WORD}
 use Rattle.fields.specs.Words.{word}
 use Rattle.fields.specs.Pins.{attachGood}
-use Rattle.commands.specs.Numbers.{FLASH-BEGIN, FLASH-DATA, FLASH-END, MEM-BEGIN, MEM-END, MEM-DATA, SYNC, WRITE-REG, READ-REG, SPI-ATTACH}
+use Rattle.commands.specs.Numbers.{FLASH-BEGIN, FLASH-DATA, FLASH-END, MEM-BEGIN, MEM-END, MEM-DATA, SYNC, WRITE-REG, READ-REG, SPI-ATTACH, SPI-FLASH-MD5}
 use Rattle.commands.specs.Header.{FOUR-WORDS, command, shaped, dataShaped}
 use Rattle.begins.specs.Begin.{beginOf, flashRule, memoryRule}
 use Rattle.commands.specs.Block.{zeroWords, sumGood, paddingGood}
-use Rattle.commands.specs.Parameters.{flashEndRule, memoryEndRule, syncRule, registerRule, writeRule}
+use Rattle.commands.specs.Parameters.{flashEndRule, memoryEndRule, syncRule, registerRule, writeRule, digestRule}
 use Rattle.begins.specs.declared.Lengths.{Lengths}
 use Rattle.errors.specs.Numbers.{unknownCommand, wrongSize, noSession, wrongBlockSize, badParameter, allAccepted, outOfSequence, wrongChecksum, badPadding, blocksMissing}
 use Rattle.sessions.specs.Session.{flashOpen, memoryOpen, announced, accepted}
@@ -19,7 +19,7 @@ use Rattle.sessions.specs.declared.Session.{Session}
 
 -- the commands of the list, by their numbers
 pub data Kind : Type 0 where
-  flash-begin flash-data flash-end memory-begin memory-end memory-data sync write-reg read-reg spi-attach unknown : Kind
+  flash-begin flash-data flash-end memory-begin memory-end memory-data sync write-reg read-reg spi-attach flash-digest unknown : Kind
 
 unfoldable pub kind : ℕ → Kind
 kind c =
@@ -31,7 +31,8 @@ kind c =
     (cond (eqb c MEM-DATA) memory-data
     (cond (eqb c SYNC) sync
     (cond (eqb c WRITE-REG) write-reg
-    (cond (eqb c READ-REG) read-reg (cond (eqb c SPI-ATTACH) spi-attach unknown)))))))))
+    (cond (eqb c READ-REG) read-reg
+    (cond (eqb c SPI-ATTACH) spi-attach (cond (eqb c SPI-FLASH-MD5) flash-digest unknown))))))))))
 
 -- a data command, where a session of its kind is open or not
 unfoldable pub dataChecks : Bool → Session → List ℕ → List Check
@@ -70,6 +71,7 @@ checks l s sync p = plainChecks (shaped 36 p) (syncRule p)
 checks l s write-reg p = plainChecks (shaped FOUR-WORDS p) (writeRule l p)
 checks l s read-reg p = plainChecks (shaped 4 p) (registerRule l (word p FIRST-WORD))
 checks l s spi-attach p = plainChecks (shaped 4 p) (attachGood (word p FIRST-WORD))
+checks l s flash-digest p = plainChecks (shaped FOUR-WORDS p) (digestRule l p)
 checks l s unknown p = false orElse unknownCommand ∷ []
 
 -- the error byte of a read packet, 0 on success

@@ -9,6 +9,7 @@ use commands::MEM_DATA;
 use commands::MEM_END;
 use commands::READ_REG;
 use commands::SPI_ATTACH;
+use commands::SPI_FLASH_MD5;
 use commands::SYNC;
 use commands::WRITE_REG;
 use fields::FIRST_WORD;
@@ -148,6 +149,10 @@ pub fn error_of(lengths: Lengths, session: Session, packet: &[u8]) -> u8
         SPI_ATTACH => plain_error(
             commands::shape_good(packet, 4),
             fields::attach_good(fields::word_at(packet, FIRST_WORD)),
+        ),
+        SPI_FLASH_MD5 => plain_error(
+            commands::shape_good(packet, FOUR_WORDS),
+            commands::digest_good(lengths, packet),
         ),
         _ => UNKNOWN_COMMAND,
     }

@@ -12,10 +12,10 @@ use Rattle.commands.specs.Header.{command, shaped}
 use Rattle.commands.specs.Parameters.{flashEndRule}
 use Rattle.begins.specs.declared.Begin.{Begin}
 use Rattle.sessions.specs.Session.{flashOpen, memoryOpen, announced, accepted, advanced}
-use Rattle.errors.specs.Errors.{Kind, kind, flash-begin, flash-data, flash-end, memory-begin, memory-end, memory-data, sync, write-reg, read-reg, spi-attach, unknown, plainChecks, endChecks, checks}
+use Rattle.errors.specs.Errors.{Kind, kind, flash-begin, flash-data, flash-end, memory-begin, memory-end, memory-data, sync, write-reg, read-reg, spi-attach, flash-digest, unknown, plainChecks, endChecks, checks}
 use Rattle.sessions.specs.declared.Session.{Session}
 use Rattle.sessions.specs.declared.Session.the-variants.{Closed, Flash, Memory}
-use Rattle.errors.proofs.Checks.{Is, is-flash-begin, is-flash-data, is-flash-end, is-memory-begin, is-memory-end, is-memory-data, is-sync, is-write-reg, is-read-reg, is-spi-attach, is-unknown, is, DataPassed, data-passed, data-passes, EndPassed, end-passed, end-passes}
+use Rattle.errors.proofs.Checks.{Is, is-flash-begin, is-flash-data, is-flash-end, is-memory-begin, is-memory-end, is-memory-data, is-sync, is-write-reg, is-read-reg, is-spi-attach, is-flash-digest, is-unknown, is, DataPassed, data-passed, data-passes, EndPassed, end-passed, end-passes}
 use Rattle.blocks.specs.Flash.{flashBlock}
 use Rattle.effects.specs.Core.{Core, lengths}
 use Rattle.effects.specs.Effects.{effect}
@@ -151,8 +151,9 @@ kept-kind c g k p memory-end s is-memory-end nb ng ne t = absurd-test (end-passe
 kept-kind c g k p memory-data s is-memory-data nb ng ne t = absurd-test (data-passed false (Flash g k) p t .is-open)
 kept-kind c g k p sync s is-sync nb ng ne t = (s, refl)
 kept-kind c g k p write-reg s is-write-reg nb ng ne t = (s, refl)
-kept-kind c g k p read-reg s is-read-reg nb ng ne t = (s, refl)
+kept-kind c g k p read-reg s (is-read-reg _) nb ng ne t = (s, refl)
 kept-kind c g k p spi-attach s is-spi-attach nb ng ne t = (s, refl)
+kept-kind c g k p flash-digest s (is-flash-digest _) nb ng ne t = (s, refl)
 kept-kind c g k p unknown s is-unknown nb ng ne t = absurd-test (t .0)
 
 -- with a flash session open, what is neither a good BEGIN, nor its next block, nor its END changes neither session nor flash
@@ -183,8 +184,9 @@ unopened-kind c p memory-end is-memory-end o nb t = unfold flashOpen in refl
 unopened-kind c p memory-data is-memory-data o nb t = advanced-open (c .session) ∙ o
 unopened-kind c p sync is-sync o nb t = o
 unopened-kind c p write-reg is-write-reg o nb t = o
-unopened-kind c p read-reg is-read-reg o nb t = o
+unopened-kind c p read-reg (is-read-reg _) o nb t = o
 unopened-kind c p spi-attach is-spi-attach o nb t = o
+unopened-kind c p flash-digest (is-flash-digest _) o nb t = o
 unopened-kind c p unknown is-unknown o nb t = o
 
 -- with none open, only a good flash BEGIN opens one

@@ -23,4 +23,4 @@ handledAt hs i =
 -- a packet is answered as FLASH_END, with success
 unfoldable pub endSucceeds : Reply → Bool
 endSucceeds (nothing w) = false
-endSucceeds (replied c e v order) = eqb c FLASH-END && eqb e 0
+endSucceeds (replied c e v b order) = eqb c FLASH-END && eqb e 0

@@ -6,12 +6,15 @@ use mathlib.Core.Logic.{_↔_}
 use Prim.Native.Nat.{ℕ, suc, _<_}
 use lib.ListN.{length, take}
 use Rattle.fields.specs.Pins.{attachGood}
-use Rattle.packets.specs.Packets.{Packet}
+use Rattle.packets.specs.Packets.{Packet, read}
+use Rattle.commands.specs.Numbers.{SPI-FLASH-MD5}
+use Rattle.commands.specs.Header.{command}
+use Rattle.begins.specs.declared.Begin.{Begin}
 use Rattle.begins.specs.declared.Lengths.{Lengths}
 use Rattle.sessions.specs.Session.{flashOpen, sessionGood}
 use Rattle.effects.specs.Core.{Core, lengths}
 use Rattle.effects.specs.Handle.{Handled}
-use Rattle.history.specs.Grammar.{Choice, Fits, packet, begins}
+use Rattle.history.specs.Grammar.{Choice, Fits, packet, begins, fillerBlock, fillerEnd}
 use Rattle.history.specs.Loaded.{image, Loaded}
 use Rattle.history.specs.History.{history, handledAt, endSucceeds}
 
@@ -46,3 +49,9 @@ abbrev pub PacketsLoad : Type 0
 PacketsLoad =
     (c : Core) → flashOpen (c .session) ≡ false → sessionGood (lengths c) (c .session) ≡ true
     → (ps : List Packet) → FollowsGrammar (lengths c) ps (history c ps)
+
+-- "Demand 3 holds, the command being filler" (request Four): SPI_FLASH_MD5 is filler before every block of every BEGIN, and before END.
+abbrev pub DigestIsFiller : Type 0
+DigestIsFiller =
+    (l : Lengths) (p : List ℕ) → command p ≡ SPI-FLASH-MD5
+    → ((g : Begin) (k : ℕ) → fillerBlock l g k (read p) ≡ true) × (fillerEnd l (read p) ≡ true)

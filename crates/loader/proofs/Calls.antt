@@ -21,23 +21,25 @@ use Rattle.runs.proofs.Kept.{run-within}
 use Rattle.commands.specs.Header.{command}
 use Rattle.sessions.specs.Session.{sessionGood}
 use Rattle.loader_state.specs.Refusals.{refusal}
-use Rattle.answers.specs.Answer.{answerBytes}
+use Rattle.answers.specs.Answer.{bodyBytes, answerBytes}
 use Rattle.answers.specs.Reply.{longestAnswer, Replies}
 use Rattle.answers.proofs.Replies.{sent-whole, laid-whole}
 use Rattle.effects.specs.Core.{lengths}
 use Rattle.effects.specs.Handle.{handle, obeyed, Does}
+use Rattle.effects.proofs.Bodies.{short}
 use Rattle.effects.proofs.Handled.{obeyed-handled}
 use Rattle.loader.specs.RunStep.{runStep, taking, refusingRun, FeedsRun}
 use Rattle.loader.specs.Step.{told, Feeds, step, refusing, afterByte, afterPacket, coreOf, bufferLengths, answerBuffer, toldOf}
-use Rattle.loader.specs.Parts.{classified, Acts}
+use Rattle.headers.specs.Classified.{classified}
+use Rattle.loader.specs.Parts.{Acts}
 use Rattle.loader_state.specs.declared.Loader.{Loader}
 use Rattle.loader.specs.declared.Answer.the-variants.{Refused, Taken, Dropped, Answered}
 use Rattle.loader.specs.declared.Fed.{Fed}
 use Rattle.loader.specs.declared.RunFed.{RunFed}
 use Rattle.effects.specs.declared.Done.{Done}
 use Rattle.loader.proofs.Judged.{judged-once}
-use Rattle.loader.specs.declared.Packet.the-variants as code
-use Rattle.loader.specs.declared.Packet as code-packet
+use Rattle.headers.specs.declared.Packet.the-variants as code
+use Rattle.headers.specs.declared.Packet as code-packet
 
 -- ---- a whole packet
 
@@ -71,7 +73,7 @@ module _
       (n sent : ℕ) (done : Done) (after flash′ words′ : List ℕ) → x ≡ code.Read n → longestAnswer ≤ length buffer
       → sessionGood (lengths (coreOf loader flash words)) (loader .session) ≡ true
       → Does (obeyed (coreOf loader flash words) p) (command p) done flash′ words′
-      → Replies (answerBytes n (done .error) (done .value)) buffer sent after
+      → Replies (answerBytes n (done .error) (done .value) (done .body)) buffer sent after
       → Acts (handle (coreOf loader flash words) (header (whole p))) loader (length p) buffer
       (record {
         answer = Answered (length p) n (done .error) sent (done .note);
@@ -81,11 +83,12 @@ module _
   acts-read n sent done after flash′ words′ e fits sound does r =
       let h = packet-read n e in
       let d : Does (handle (coreOf loader flash words) (read p)) (command p) done flash′ words′ = rw (obeyed-handled (coreOf loader flash words) p sound) at does in
+      let k : length (bodyBytes (done .body)) ≤ 16 = rw (d .reply) at (short (coreOf loader flash words) (read p)) in
       rw (h .0)
       (record {
-        says = rw (d .reply, sent-whole n (done .error) (done .value) sent buffer after fits r, h .1);
+        says = rw (d .reply, sent-whole n (done .error) (done .value) (done .body) k sent buffer after fits r, h .1);
         hands-back = rw (d .session, d .attach);
-        answer-buffer = rw (d .reply, ← (h .1)) (laid-whole n (done .error) (done .value) sent buffer after fits r);
+        answer-buffer = rw (d .reply, ← (h .1)) (laid-whole n (done .error) (done .value) (done .body) k sent buffer after fits r);
         in-flash = d .in-flash;
         in-words = d .in-words;
       })

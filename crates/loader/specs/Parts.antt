@@ -2,19 +2,10 @@
 use Prim.Native.Nat.{ℕ}
 use mathlib.Core.Path.{_≡_}
 use mathlib.Core.List.{List}
-use Rattle.packets.specs.Packets as cut
-use Rattle.commands.specs.Header.{command}
 use Rattle.effects.specs.Handle.{Handled}
 use Rattle.loader.specs.Step.{told, toldOf, answerBuffer}
 use Rattle.loader_state.specs.declared.Loader.{Loader}
 use Rattle.loader.specs.declared.Fed.{Fed}
-use Rattle.loader.specs.declared.Packet.{Packet}
-use Rattle.loader.specs.declared.Packet.the-variants as code
-
--- the packet answer: dropped for a reason, or read with its command
-abbrev pub classified : cut.Packet → Packet
-classified (cut.dropped w) = code.Dropped w
-classified (cut.read p) = code.Read (command p)
 
 -- what handling a whole packet comes to: the answer, the next record, and the buffers but for the packet buffer
 pub record Acts (h : Handled) (before : Loader) (stored : ℕ) (buffer : List ℕ) (r : Fed) (answer flash words : List ℕ) : Type 0 where

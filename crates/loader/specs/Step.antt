@@ -15,7 +15,7 @@ use Rattle.unframing.specs.declared.Reason.{Reason}
 use Rattle.loader_state.specs.Refusals.{BufferLengths, refusal}
 use Rattle.answers.specs.Answer.{statusOf, answerBytes}
 use Rattle.effects.specs.Core.{Core}
-use Rattle.effects.specs.Notes.{Order, noted}
+use Rattle.notes.specs.Notes.{Order, noted}
 use Rattle.effects.specs.Handle.{Reply, nothing, replied, Handled, handle}
 use Rattle.loader_state.specs.declared.Loader.{Loader}
 use Rattle.loader.specs.declared.Answer.{Answer}
@@ -63,11 +63,11 @@ refusing n r packet answer flash words =
 -- "On both lines what is sent, framed, fills the front of answer room; the rest, or all of it without an answer, stays."
 unfoldable pub answerBuffer : Reply → List ℕ → List ℕ
 answerBuffer (nothing w) buffer = buffer
-answerBuffer (replied c e v order) buffer = lay buffer 0 (framed (answerBytes c e v))
+answerBuffer (replied c e v b order) buffer = lay buffer 0 (framed (answerBytes c e v b))
 
 unfoldable pub toldOf : ℕ → Reply → Told
 toldOf stored (nothing w) = dropped stored w
-toldOf stored (replied c e v order) = answered stored c (statusOf e) e (length (framed (answerBytes c e v))) order
+toldOf stored (replied c e v b order) = answered stored c (statusOf e) e (length (framed (answerBytes c e v b))) order
 
 -- a call that closed a packet, which was handled
 unfoldable pub afterPacket : Line → ℕ → Handled → List ℕ → List ℕ → Step

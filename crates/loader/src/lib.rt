@@ -1,12 +1,11 @@
 // The chip's end of the ESP serial protocol: the call that is made with each run of received bytes.
-mod header;
-
 pub use answers::LONGEST_ANSWER;
-pub use effects::Note;
-use header::read_packet;
+use headers::Packet;
+use headers::read_packet;
 pub use loader_state::Loader;
 pub use loader_state::new;
 use loader_state::refusal_of;
+pub use notes::Note;
 pub use sessions::Session;
 use unframing::Closing;
 pub use unframing::Reason;
@@ -59,12 +58,6 @@ pub struct Fed {
     pub loader: Loader,
 }
 
-// A closed packet: dropped for a reason, or read, with its command.
-pub enum Packet {
-    Dropped(Reason),
-    Read(u8),
-}
-
 // Why a packet that is not read was dropped.
 fn reason_of(closed: Packet) -> Reason
     requires { ⌜ ((w : Reason) × (closed ≡ Packet.Dropped w)) ⌝ }
@@ -99,7 +92,8 @@ fn act(loader: Loader, packet: &[u8], answer: &mut [u8], flash: &mut [u8], words
     let session = loader.session;
     let done = effects::obey(packet, session, loader.attach, flash, words);
     let error = done.error;
-    let sent = answers::reply(command, error, done.value, answer);
+    let body = done.body;
+    let sent = answers::reply(command, error, done.value, body, answer);
     let line = loader.line;
     let next = done.session;
     let note = done.note;
@@ -122,7 +116,7 @@ fn act(loader: Loader, packet: &[u8], answer: &mut [u8], flash: &mut [u8], words
 // A run of received bytes, as many as a read brought. It is taken up to and with the byte that closes a packet, or whole where none does.
 // The caller lends
 // - a packet buffer of at least 4,120 bytes, the same for each call, and does not write to it;
-// - an answer buffer of at least 22 bytes, which it may use as it likes between calls;
+// - an answer buffer of at least LONGEST_ANSWER bytes, which it may use as it likes between calls;
 // - flash, of a length that is a multiple of 4,096 up to 4,194,304, and 1 to 16,384 words of memory, the same for each call;
 // keeps the record that comes back, does what stands at the answer's case, and hands the rest of the run over with the next call.
 pub fn feed_run(

@@ -6,7 +6,10 @@ ghost use Rattle.packets.specs.Theorems.{FirstDecides, DroppedAsBefore};
 ghost use Rattle.runs.specs.Theorems.{TakesMost, TakesSome, GoesOn, StaysClosed, RunComesBack};
 ghost use Rattle.fields.specs.Theorems.{WordBack, PackedSays};
 ghost use Rattle.begins.specs.Count.{CountIsDividedUp};
-ghost use Rattle.history.specs.Theorems.{PacketsKeep, PacketsLoad};
+ghost use Rattle.digest.specs.Suite.{Rfc1321Suite};
+ghost use Rattle.digest.specs.Theorems.{PaddedAsSaid, SixteenBytes};
+ghost use Rattle.claims.specs.Digest.{DigestAnswered, RunDigestAnswered, LoadIsDigested};
+ghost use Rattle.history.specs.Theorems.{PacketsKeep, PacketsLoad, DigestIsFiller};
 ghost use Rattle.history.specs.Witness.{WorkedFits};
 ghost use Rattle.claims.specs.CallHistory.{CallsAreHistory};
 ghost use Rattle.claims.specs.RunHistory.{RunsAreHistory};
@@ -32,6 +35,7 @@ ghost use Rattle.link_claims.specs.DeadTime.{DeadSinceBaud};
 ghost use Rattle.link_claims.specs.Delivers.{Delivers};
 ghost use Rattle.link_claims.specs.Worked.{WorkedProbe};
 ghost use Rattle.cases.specs.Cases.{Starred};
+ghost use Rattle.cases.specs.Digests.{DigestCases};
 ghost use Rattle.cases.specs.Example.{Example};
 
 // ---- Demand 1: a bad call and a bad command change nothing.
@@ -176,6 +180,44 @@ pub fn run_reasons_told()
     ensures { λ r. ⌜ RunReasonsTold ⌝ }
 {}
 
+// ---- The digest command.
+
+// The definition of MD5 gives the digests of RFC 1321's test suite, all seven.
+pub fn rfc1321_suite()
+    ensures { λ r. ⌜ Rfc1321Suite ⌝ }
+{}
+
+// Every message is padded as the RFC says of it: to 56 bytes and a multiple of 64 before the length, to whole blocks behind it.
+pub fn padded_as_said()
+    ensures { λ r. ⌜ PaddedAsSaid ⌝ }
+{}
+
+// Every digest has 16 bytes.
+pub fn sixteen_bytes()
+    ensures { λ r. ⌜ SixteenBytes ⌝ }
+{}
+
+// A call that closes a good SPI_FLASH_MD5, whatever session is open, answers it with the digest of the bytes named, and session, attach
+// word, flash and words stay; every other is answered with 0xC0 or 0xC5 and no digest, and they stay too.
+pub fn digest_answered()
+    ensures { λ r. ⌜ DigestAnswered ⌝ }
+{}
+
+// The same of a call with a run.
+pub fn run_digest_answered()
+    ensures { λ r. ⌜ RunDigestAnswered ⌝ }
+{}
+
+// After a load SPI_FLASH_MD5 with the offset and size of its BEGIN keeps the rule, and its digest is that of the data that was announced.
+pub fn load_is_digested()
+    ensures { λ r. ⌜ LoadIsDigested ⌝ }
+{}
+
+// SPI_FLASH_MD5, good or not, is filler in the grammar of demand 3.
+pub fn digest_is_filler()
+    ensures { λ r. ⌜ DigestIsFiller ⌝ }
+{}
+
 // ---- Demand 3: FLASH_END succeeds exactly where the packets so far fit the grammar, and flash is then as announced.
 
 // From a session that refusal 5 lets pass, no packet changes the length of flash or words, leaves a session that refusal 5 would
@@ -305,6 +347,11 @@ pub fn worked_probe()
 // The starred cases of document 01, in one table.
 pub fn starred()
     ensures { λ r. ⌜ Starred ⌝ }
+{}
+
+// Cases of the digest command: of "abc", of no bytes at the end of flash, and with words that break its rule.
+pub fn digest_cases()
+    ensures { λ r. ⌜ DigestCases ⌝ }
 {}
 
 // The listing of the example's bytes, in whatever blocks they are handed over, is its heading and its two lines; a dropped packet behind

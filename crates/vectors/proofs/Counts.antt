@@ -12,7 +12,7 @@ use Rattle.loader_state.specs.declared.Loader.{Loader}
 use Rattle.loader.specs.declared.Answer.{Answer}
 use Rattle.loader.specs.declared.Answer.the-variants.{Taken, Dropped, Answered}
 use Rattle.unframing.specs.declared.Reason.{Reason}
-use Rattle.effects.specs.declared.Note.{Note}
+use Rattle.notes.specs.declared.Note.{Note}
 use Rattle.loader.specs.declared.RunFed.{RunFed}
 use Rattle.loader.proofs.Runs.{Counted, counted}
 

@@ -39,7 +39,7 @@ fn joined(said: Said, answer: Answer) -> Said {
     match answer {
         Answer::Refused(_) => Said {
             closed: said.closed,
-            errors: SILENT,
+            errors: said.errors | SILENT,
             silent: SILENT,
             sent: 0,
             last: answer,
@@ -56,7 +56,7 @@ fn joined(said: Said, answer: Answer) -> Said {
             reason: _,
         } => Said {
             closed: std::num::wrapping_add_u8(said.closed, 1),
-            errors: SILENT,
+            errors: said.errors | SILENT,
             silent: SILENT,
             sent: 0,
             last: answer,

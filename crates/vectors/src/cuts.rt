@@ -15,7 +15,8 @@ use tables::part;
 use unframing::Phase;
 
 // The front of the buffer: what the calls told, the record and the answer buffer. A field has 8,242 bytes; the shortest packet that is
-// answered has nine of them, and takes at most 46 bytes here, and a dropped one has two, and takes 12.
+// answered has nine of them, and takes at most 46 bytes here, one that is answered with a digest 25, and takes 78, and a dropped one has
+// two, and takes 12.
 const TOLD: usize = 53248;
 
 const FLASH_AT: usize = TOLD + LONGEST;

@@ -3,7 +3,8 @@ use native.Mathlib.Omega.{arith}
 use Rattle.errors.specs.Errors.{kind}
 use Rattle.errors.proofs.Numbers.{kind-none}
 use Rattle.effects.specs.Effects.{effect}
-use Rattle.effects.proofs.Passing.{written-place, read-place, flash-data, memory-data, flash-word, memory-word}
+use Rattle.fields.specs.Words.{word}
+use Rattle.effects.proofs.Passing.{flash-data, memory-data, flash-word, memory-word, flash-told, memory-told}
 use Rattle.effects.proofs.Fitting.{flash-written, words-written}
 use Rattle.effects.proofs.Carried.{does-at, does-none, leaves}
 use borrow.Author.Needs.{needs}
@@ -42,10 +43,7 @@ leaving-requires-2 : tie.Need-leaving-requires-2
 leaving-requires-2 c κs = search needs
 
 flash-note-requires : tie.Need-flash-note-requires
-flash-note-requires c κs =
-    let at-command-of = c .before in
-    let start = at-command-of .before .before .before .before in
-    let a = start .args in flash-word _ (a .session) (a .packet .now) _ (at-command-of .command-of .ensures) (start .pre .0) (c .match .keys3)
+flash-note-requires c κs = search needs
 
 ending-requires : tie.Need-ending-requires
 ending-requires c κs = search needs
@@ -57,10 +55,7 @@ leaving-requires-3 : tie.Need-leaving-requires-3
 leaving-requires-3 c κs = search needs
 
 memory-note-requires : tie.Need-memory-note-requires
-memory-note-requires c κs =
-    let at-command-of = c .before in
-    let start = at-command-of .before .before .before .before in
-    let a = start .args in memory-word _ (a .session) (a .packet .now) _ (at-command-of .command-of .ensures) (start .pre .0) (c .match .keys5)
+memory-note-requires c κs = search needs
 
 ending-requires-2 : tie.Need-ending-requires-2
 ending-requires-2 c κs = search needs
@@ -90,26 +85,32 @@ leaving-requires-4 c κs = search needs
 leaving-requires-5 : tie.Need-leaving-requires-5
 leaving-requires-5 c κs = search needs
 
-write-register-requires : tie.Need-write-register-requires
-write-register-requires c κs =
-    let at-command-of = c .before .before in
-    let start = at-command-of .before .before .before .before in
-    let a = start .args in written-place _ (a .session) (a .packet .now) _ (at-command-of .command-of .ensures) (start .pre .0) (c .before .match .keys8)
+write-requires : tie.Need-write-requires
+write-requires c κs = search needs
 
 leaving-requires-6 : tie.Need-leaving-requires-6
 leaving-requires-6 c κs = search needs
 
-read-register-requires : tie.Need-read-register-requires
-read-register-requires c κs =
-    let at-command-of = c .before .before in
-    let start = at-command-of .before .before .before .before in
-    let a = start .args in read-place _ (a .session) (a .packet .now) _ (at-command-of .command-of .ensures) (start .pre .0) (c .before .match .keys9)
+read-requires : tie.Need-read-requires
+read-requires c κs = search needs
+
+plain-requires : tie.Need-plain-requires
+plain-requires c κs = search needs
+
+answering-requires : tie.Need-answering-requires
+answering-requires c κs = search needs
 
 word-at-requires : tie.Need-word-at-requires
 word-at-requires c κs = search needs
 
 leaving-requires-7 : tie.Need-leaving-requires-7
 leaving-requires-7 c κs = search needs
+
+digest-body-requires : tie.Need-digest-body-requires
+digest-body-requires c κs = search needs
+
+answering-requires-2 : tie.Need-answering-requires-2
+answering-requires-2 c κs = search needs
 
 leaving-requires-8 : tie.Need-leaving-requires-8
 leaving-requires-8 c κs = search needs
@@ -120,7 +121,7 @@ returns c =
     let at-match = c .before .before in
     let at-command-of = at-match .before in
     let start = at-command-of .before .before .before .before in
-    does-at _ (start .args .packet .now) _ _ _ _ (at-command-of .command-of .ensures) 0x02 (at-match .match .keys1) (leaves _ _ _ _ _ _ _ _ _ _ (c .leaving .ensures) refl (rw (c .before .begin-of .ensures)) refl refl refl)
+    does-at _ (start .args .packet .now) _ _ _ _ (at-command-of .command-of .ensures) 0x02 (at-match .match .keys1) (leaves _ _ _ _ _ _ _ _ _ _ _ (c .leaving .ensures) refl (rw (c .before .begin-of .ensures)) refl refl refl)
 
 same-length : tie.Need-same-length
 same-length c = search needs
@@ -137,7 +138,7 @@ returns-2 c =
     let a = start .args in
     let d = flash-data _ (a .session) (a .packet .now) _ (at-command-of .command-of .ensures) (start .pre .0) (at-match .match .keys2) in
     let w = rw (at-announced-by .announced-by .ensures, at-accepted-by .accepted-by .ensures) at (at-write-flash .write-flash .ensures) in
-    does-at _ (a .packet .now) _ _ _ _ (at-command-of .command-of .ensures) 0x03 (at-match .match .keys2) (leaves _ _ _ _ _ _ _ _ _ _ (c .leaving2 .ensures) refl (c .before .advanced-by .ensures) refl (w ∙ flash-written (a .flash .now) (a .words .now) (a .packet .now) (a .session) (start .pre .1) d) refl)
+    does-at _ (a .packet .now) _ _ _ _ (at-command-of .command-of .ensures) 0x03 (at-match .match .keys2) (leaves _ _ _ _ _ _ _ _ _ _ _ (c .leaving2 .ensures) refl (c .before .advanced-by .ensures) refl (w ∙ flash-written (a .flash .now) (a .words .now) (a .packet .now) (a .session) (start .pre .1) d) refl)
 
 returns-3 : tie.Need-returns-3
 unfolding kind effect
@@ -145,7 +146,9 @@ returns-3 c =
     let at-match = c .before .before in
     let at-command-of = at-match .before in
     let start = at-command-of .before .before .before .before in
-    does-at _ (start .args .packet .now) _ _ _ _ (at-command-of .command-of .ensures) 0x04 (at-match .match .keys3) (leaves _ _ _ _ _ _ _ _ _ _ (c .ending .ensures) (rw (c .before .flash-note .ensures)) refl refl refl refl)
+    let a = start .args in
+    let w = flash-word _ (a .session) (a .packet .now) _ (at-command-of .command-of .ensures) (start .pre .0) (at-match .match .keys3) in
+    does-at _ (a .packet .now) _ _ _ _ (at-command-of .command-of .ensures) 0x04 (at-match .match .keys3) (leaves _ _ _ _ _ _ _ _ _ _ _ (c .ending .ensures) (rw (c .before .flash-note .ensures, flash-told (word (a .packet .now) 8) w) refl) refl refl refl refl)
 
 returns-4 : tie.Need-returns-4
 unfolding kind effect
@@ -153,7 +156,7 @@ returns-4 c =
     let at-match = c .before .before in
     let at-command-of = at-match .before in
     let start = at-command-of .before .before .before .before in
-    does-at _ (start .args .packet .now) _ _ _ _ (at-command-of .command-of .ensures) 0x05 (at-match .match .keys4) (leaves _ _ _ _ _ _ _ _ _ _ (c .leaving3 .ensures) refl (rw (c .before .begin-of2 .ensures)) refl refl refl)
+    does-at _ (start .args .packet .now) _ _ _ _ (at-command-of .command-of .ensures) 0x05 (at-match .match .keys4) (leaves _ _ _ _ _ _ _ _ _ _ _ (c .leaving3 .ensures) refl (rw (c .before .begin-of2 .ensures)) refl refl refl)
 
 returns-5 : tie.Need-returns-5
 unfolding kind effect
@@ -161,7 +164,9 @@ returns-5 c =
     let at-match = c .before .before in
     let at-command-of = at-match .before in
     let start = at-command-of .before .before .before .before in
-    does-at _ (start .args .packet .now) _ _ _ _ (at-command-of .command-of .ensures) 0x06 (at-match .match .keys5) (leaves _ _ _ _ _ _ _ _ _ _ (c .ending2 .ensures) (rw (c .before .memory-note .ensures)) refl refl refl refl)
+    let a = start .args in
+    let w = memory-word _ (a .session) (a .packet .now) _ (at-command-of .command-of .ensures) (start .pre .0) (at-match .match .keys5) in
+    does-at _ (a .packet .now) _ _ _ _ (at-command-of .command-of .ensures) 0x06 (at-match .match .keys5) (leaves _ _ _ _ _ _ _ _ _ _ _ (c .ending2 .ensures) (rw (c .before .memory-note .ensures, memory-told (word (a .packet .now) 8) (word (a .packet .now) 12) w) refl) refl refl refl refl)
 
 same-length-2 : tie.Need-same-length-2
 same-length-2 c = search needs
@@ -178,14 +183,14 @@ returns-6 c =
     let a = start .args in
     let d = memory-data _ (a .session) (a .packet .now) _ (at-command-of .command-of .ensures) (start .pre .0) (at-match .match .keys6) in
     let w = rw (at-announced-by2 .announced-by2 .ensures, at-accepted-by2 .accepted-by2 .ensures) at (at-write-words .write-words .ensures) in
-    does-at _ (a .packet .now) _ _ _ _ (at-command-of .command-of .ensures) 0x07 (at-match .match .keys6) (leaves _ _ _ _ _ _ _ _ _ _ (c .leaving4 .ensures) refl (c .before .advanced-by2 .ensures) refl refl (w ∙ words-written (a .flash .now) (a .words .now) (a .packet .now) (a .session) (start .pre .1) d))
+    does-at _ (a .packet .now) _ _ _ _ (at-command-of .command-of .ensures) 0x07 (at-match .match .keys6) (leaves _ _ _ _ _ _ _ _ _ _ _ (c .leaving4 .ensures) refl (c .before .advanced-by2 .ensures) refl refl (w ∙ words-written (a .flash .now) (a .words .now) (a .packet .now) (a .session) (start .pre .1) d))
 
 returns-7 : tie.Need-returns-7
 unfolding kind effect
 returns-7 c =
     let at-command-of = c .before .before in
     let start = at-command-of .before .before .before .before in
-    does-at _ (start .args .packet .now) _ _ _ _ (at-command-of .command-of .ensures) 0x08 (c .before .match .keys7) (leaves _ _ _ _ _ _ _ _ _ _ (c .leaving5 .ensures) refl refl refl refl refl)
+    does-at _ (start .args .packet .now) _ _ _ _ (at-command-of .command-of .ensures) 0x08 (c .before .match .keys7) (leaves _ _ _ _ _ _ _ _ _ _ _ (c .leaving5 .ensures) refl refl refl refl refl)
 
 same-length-3 : tie.Need-same-length-3
 same-length-3 c = search needs
@@ -193,11 +198,11 @@ same-length-3 c = search needs
 returns-8 : tie.Need-returns-8
 unfolding kind effect
 returns-8 c =
-    let at-write-register = c .before .before .before in
-    let at-match = at-write-register .before .before in
+    let at-write = c .before .before .before in
+    let at-match = at-write .before .before in
     let at-command-of = at-match .before in
     let start = at-command-of .before .before .before .before in
-    does-at _ (start .args .packet .now) _ _ _ _ (at-command-of .command-of .ensures) 0x09 (at-match .match .keys8) (leaves _ _ _ _ _ _ _ _ _ _ (c .leaving6 .ensures) refl refl refl refl (at-write-register .write-register .ensures))
+    does-at _ (start .args .packet .now) _ _ _ _ (at-command-of .command-of .ensures) 0x09 (at-match .match .keys8) (leaves _ _ _ _ _ _ _ _ _ _ _ (c .leaving6 .ensures) refl refl refl refl (at-write .write .ensures))
 
 same-length-4 : tie.Need-same-length-4
 same-length-4 c = search needs
@@ -205,10 +210,11 @@ same-length-4 c = search needs
 returns-9 : tie.Need-returns-9
 unfolding kind effect
 returns-9 c =
-    let at-match = c .before .before in
+    let at-read = c .before .before in
+    let at-match = at-read .before .before in
     let at-command-of = at-match .before in
     let start = at-command-of .before .before .before .before in
-    does-at _ (start .args .packet .now) _ _ _ _ (at-command-of .command-of .ensures) 0x0A (at-match .match .keys9) (record { reply = rw (c .read-register .ensures); session = refl; attach = refl; in-flash = refl; in-words = refl })
+    does-at _ (start .args .packet .now) _ _ _ _ (at-command-of .command-of .ensures) 0x0A (at-match .match .keys9) (leaves _ _ _ _ _ _ _ _ _ _ _ (c .answering .ensures) (rw (at-read .read .ensures, c .before .plain .ensures) refl) refl refl refl refl)
 
 returns-10 : tie.Need-returns-10
 unfolding kind effect
@@ -216,14 +222,25 @@ returns-10 c =
     let at-match = c .before .before in
     let at-command-of = at-match .before in
     let start = at-command-of .before .before .before .before in
-    does-at _ (start .args .packet .now) _ _ _ _ (at-command-of .command-of .ensures) 0x0D (at-match .match .keys10) (leaves _ _ _ _ _ _ _ _ _ _ (c .leaving7 .ensures) refl refl (c .before .word-at .ensures) refl refl)
+    does-at _ (start .args .packet .now) _ _ _ _ (at-command-of .command-of .ensures) 0x0D (at-match .match .keys10) (leaves _ _ _ _ _ _ _ _ _ _ _ (c .leaving7 .ensures) refl refl (c .before .word-at .ensures) refl refl)
+
+same-length-5 : tie.Need-same-length-5
+same-length-5 c = search needs
 
 returns-11 : tie.Need-returns-11
-unfolding effect
+unfolding kind effect
 returns-11 c =
+    let at-match = c .before .before .before in
+    let at-command-of = at-match .before in
+    let start = at-command-of .before .before .before .before in
+    does-at _ (start .args .packet .now) _ _ _ _ (at-command-of .command-of .ensures) 0x13 (at-match .match .keys11) (leaves _ _ _ _ _ _ _ _ _ _ _ (c .answering2 .ensures) (rw (c .before .digest-body .ensures) refl) refl refl refl refl)
+
+returns-12 : tie.Need-returns-12
+unfolding effect
+returns-12 c =
     let at-command-of = c .before .before in
     let start = at-command-of .before .before .before .before in
-    does-none _ (start .args .packet .now) _ _ _ _ (at-command-of .command-of .ensures) (kind-none _ (c .before .match .rest)) (leaves _ _ _ _ _ _ _ _ _ _ (c .leaving8 .ensures) refl refl refl refl refl)
+    does-none _ (start .args .packet .now) _ _ _ _ (at-command-of .command-of .ensures) (kind-none _ (c .before .match .rest)) (leaves _ _ _ _ _ _ _ _ _ _ _ (c .leaving8 .ensures) refl refl refl refl refl)
 
 pub carry-out-spec : {M : Type 1} → statement M
 carry-out-spec =
@@ -249,11 +266,15 @@ carry-out-spec =
     advanced-by-requires-2
     leaving-requires-4
     leaving-requires-5
-    write-register-requires
+    write-requires
     leaving-requires-6
-    read-register-requires
+    read-requires
+    plain-requires
+    answering-requires
     word-at-requires
     leaving-requires-7
+    digest-body-requires
+    answering-requires-2
     leaving-requires-8
     returns
     same-length
@@ -269,4 +290,6 @@ carry-out-spec =
     same-length-4
     returns-9
     returns-10
-    returns-11)
+    same-length-5
+    returns-11
+    returns-12)

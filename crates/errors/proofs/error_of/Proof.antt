@@ -110,6 +110,15 @@ attach-good-requires c κs = search needs
 plain-error-requires-6 : tie.Need-plain-error-requires-6
 plain-error-requires-6 c κs = search needs
 
+shape-good-requires-9 : tie.Need-shape-good-requires-9
+shape-good-requires-9 c κs = search needs
+
+digest-good-requires : tie.Need-digest-good-requires
+digest-good-requires c κs = search needs
+
+plain-error-requires-7 : tie.Need-plain-error-requires-7
+plain-error-requires-7 c κs = search needs
+
 returns : tie.Need-returns
 unfolding checks kind
 returns c = error-at _ _ _ 0x02 _ _ (c .before .before .before .before .before .command-of .ensures) (c .before .before .before .before .match .keys1) (rw (c .plain-error .ensures, c .before .flash-good .ensures, c .before .before .begin-of .ensures, c .before .before .before .shape-good .ensures) refl)
@@ -151,7 +160,11 @@ unfolding checks kind
 returns-10 c = error-at _ _ _ 0x0D _ _ (c .before .before .before .before .before .command-of .ensures) (c .before .before .before .before .match .keys10) (rw (c .plain-error6 .ensures, c .before .attach-good .ensures, c .before .before .word-at2 .ensures, c .before .before .before .shape-good8 .ensures) refl)
 
 returns-11 : tie.Need-returns-11
-returns-11 c = rw (error-none _ _ _ _ (c .before .command-of .ensures) (kind-none _ (c .match .rest))) refl
+unfolding checks kind
+returns-11 c = error-at _ _ _ 0x13 _ _ (c .before .before .before .before .command-of .ensures) (c .before .before .before .match .keys11) (rw (c .plain-error7 .ensures, c .before .digest-good .ensures, c .before .before .shape-good9 .ensures) refl)
+
+returns-12 : tie.Need-returns-12
+returns-12 c = rw (error-none _ _ _ _ (c .before .command-of .ensures) (kind-none _ (c .match .rest))) refl
 
 pub error-of-spec : {M : Type 1} → statement M
 error-of-spec =
@@ -192,6 +205,9 @@ error-of-spec =
     word-at-requires-2
     attach-good-requires
     plain-error-requires-6
+    shape-good-requires-9
+    digest-good-requires
+    plain-error-requires-7
     returns
     returns-2
     returns-3
@@ -202,4 +218,5 @@ error-of-spec =
     returns-8
     returns-9
     returns-10
-    returns-11)
+    returns-11
+    returns-12)

@@ -4,12 +4,13 @@ use native.Mathlib.Omega.{arith}
 use borrow.Author.Tests.{ltb-true}
 use borrow.Author.Needs.{needs}
 use lib.ListN.{length}
+use Rattle.answers.specs.Reply.{longestAnswer}
 use Rattle.listing.proofs.list_all.Statement.{statement}
 use Rattle.listing.proofs.list_all.Tie as tie
 
 abbrev Inv-loop : tie.InvT-loop
 Inv-loop fd name packet₀ answer₀ flash₀ words₀ state₀ goes-on₀ reads₀ packet answer flash words state goes-on reads =
-    (length packet ≡ 4120) × (length answer ≡ 22) × (length flash ≡ 65536) × (length words ≡ 4096)
+    (length packet ≡ 4120) × (length answer ≡ longestAnswer) × (length flash ≡ 65536) × (length words ≡ 4096)
 
 abbrev μ-loop : tie.MeasureT-loop
 μ-loop fd name packet₀ answer₀ flash₀ words₀ state₀ goes-on₀ reads₀ packet answer flash words state goes-on reads =

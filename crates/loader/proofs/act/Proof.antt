@@ -36,10 +36,11 @@ same-length-3 c = search needs
 returns-2 : tie.Need-returns-2
 returns-2 c =
     let at-reply = c .before .before .before in
-    let at-obey = at-reply .before .before .before .before .before .before in
+    let at-obey = at-reply .before .before .before .before .before .before .before in
     let at-closed = at-obey .before .before .before .before in
     let at-read-packet = at-closed .before .before in
-    let s = c .before .before .before .before .before .before .before .before .before .before .before .before .before .before .before .before .before .before .before .before in acts-read _ _ _ _ _ _ (at-read-packet .read-packet .ensures) _ _ _ _ _ _ (at-closed .closed .given .1) (s .pre .0) (s .pre .1) (at-obey .obey .ensures) (at-reply .reply .ensures)
+    let start = at-read-packet .before .before .before .before .before in
+    acts-read _ _ _ _ _ _ (at-read-packet .read-packet .ensures) _ _ _ _ _ _ (at-closed .closed .given .1) (start .pre .0) (start .pre .1) (at-obey .obey .ensures) (at-reply .reply .ensures)
 
 pub act-spec : {M : Type 1} → statement M
 act-spec =

@@ -1,0 +1,3 @@
+pub mod Entries
+pub mod Rotation
+pub mod Numbers
