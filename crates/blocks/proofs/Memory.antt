@@ -14,7 +14,7 @@ use Rattle.fields.specs.Words.{word}
 use Rattle.commands.specs.Block.{payload}
 use Rattle.begins.specs.Begin.{reached}
 use Rattle.begins.specs.declared.Begin.{Begin}
-use Rattle.commands.specs.Parameters.{place}
+use Rattle.parameters.specs.Parameters.{place}
 use Rattle.blocks.specs.Memory.{wordsOf, wordsBlock, wordsFit, wordsWritten}
 
 pub length-words : (s : List ℕ) (n : ℕ) → length (wordsOf s n) ≡ n

@@ -9,7 +9,7 @@ use Rattle.fields.specs.Words.{word}
 use Rattle.begins.specs.Begin.{reached}
 use Rattle.begins.specs.declared.Begin.{Begin}
 use Rattle.commands.specs.Block.{DATA-AT, payload}
-use Rattle.commands.specs.Parameters.{place}
+use Rattle.parameters.specs.Parameters.{place}
 
 -- "Four bytes make a word, least first": the first n words of a run of bytes
 unfoldable pub wordsOf : List ℕ → ℕ → List ℕ

@@ -46,7 +46,7 @@ pub fn write_words(begin: Begin, k: u32, packet: &[u8], words: &mut [u32])
 {
     let old = begins::reach(begin, k);
     let new = begins::reach_after(begin, k);
-    let at = commands::place_of(begin.offset as u64 + old as u64);
+    let at = parameters::place_of(begin.offset as u64 + old as u64);
     let size = (new - old) as usize;
     let n = size / 4;
     if DATA_AT + size <= packet.len() {

@@ -9,12 +9,12 @@ use Rattle.lists.specs.Checks.{first}
 use Rattle.fields.specs.Words as words
 use Rattle.fields.specs.Checksum.{xored, checksum}
 use Rattle.fields.specs.Merge.{mergedBits, merged}
-use Rattle.fields.specs.Pins.{pinGood, pinField, pinsGood, pinsWord, packingOf}
+use Rattle.pins.specs.Pins.{pinGood, pinField, pinsGood, pinsWord, packingOf}
 use Rattle.framing.specs.Frame.{escaped, framed}
 use Rattle.packets.specs.Packets.{header}
 use Rattle.commands.specs.Header.{command, sized, shaped}
 use Rattle.begins.specs.Begin.{beginOf, roundUp, counted, flashRule}
-use Rattle.commands.specs.Parameters.{syncRule}
+use Rattle.parameters.specs.Parameters.{syncRule}
 use Rattle.errors.specs.Errors.{kind, plainChecks, checks, errorOf}
 use Rattle.effects.specs.Effects.{effect}
 use Rattle.effects.specs.Handle.{carriedOut, failed, handle}

@@ -15,7 +15,7 @@ use Rattle.packets.specs.Packets.{header}
 use Rattle.begins.specs.Begin.{sector}
 use Rattle.commands.specs.Header.{command, shaped, sized}
 use Rattle.commands.specs.Block.{zeroWords}
-use Rattle.commands.specs.Parameters.{digestRule}
+use Rattle.parameters.specs.Parameters.{digestRule}
 use Rattle.answers.specs.Answer.{plain, withDigest}
 use Rattle.errors.specs.Errors.{kind, checks, plainChecks, errorOf}
 use Rattle.notes.specs.Notes.{no-order}

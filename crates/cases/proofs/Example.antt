@@ -14,7 +14,7 @@ use Rattle.answers.specs.Reply.{longestAnswer}
 use Rattle.unframing.specs.Reasons.{letters, whole}
 use Rattle.packets.specs.Packets.{header}
 use Rattle.commands.specs.Header.{command, sized, shaped}
-use Rattle.commands.specs.Parameters.{syncRule}
+use Rattle.parameters.specs.Parameters.{syncRule}
 use Rattle.errors.specs.Errors.{kind, plainChecks, endChecks, checks, errorOf}
 use Rattle.sessions.specs.Session.{flashOpen}
 use Rattle.effects.specs.Core.{Core}

@@ -12,7 +12,7 @@ use Rattle.lists.specs.Lay.{lay}
 use Rattle.lists.specs.Checks.{first}
 use Rattle.lists.proofs.Laws.{length-lay}
 use Rattle.lists.proofs.Tests.{first-passed, first-append}
-use Rattle.fields.specs.Pins.{attachGood}
+use Rattle.pins.specs.Pins.{attachGood}
 use Rattle.framing.specs.Frame.{END, longest, escaped, framed}
 use Rattle.unframing.specs.Reasons.{whole}
 use Rattle.packets.specs.Packets.{header}

@@ -5,7 +5,7 @@ use mathlib.Core.Option.{none}
 use Prim.Native.Nat.{ℕ, zero, suc, _<_}
 use native.Mathlib.Omega.{arith}
 use lib.ListN.{length, getD}
-use Rattle.fields.specs.Pins.{attachGood}
+use Rattle.pins.specs.Pins.{attachGood}
 use Rattle.packets.specs.Packets.{classify, stretches, stored, packets}
 use Rattle.packets.specs.Theorems.{closedAs}
 use Rattle.packets.proofs.Cut.{todo}

@@ -25,7 +25,7 @@ use Rattle.runs.specs.Run.{runOf}
 use Rattle.commands.specs.Numbers.{SPI-FLASH-MD5}
 use Rattle.commands.specs.Header.{FOUR-WORDS, command, shaped}
 use Rattle.commands.specs.Block.{zeroWords}
-use Rattle.commands.specs.Parameters.{digestRule}
+use Rattle.parameters.specs.Parameters.{digestRule}
 use Rattle.errors.specs.Numbers.{wrongSize, badParameter}
 use Rattle.errors.specs.Errors.{kind, plainChecks, checks, errorOf}
 use Rattle.sessions.specs.declared.Session.{Session}

@@ -1,4 +1,3 @@
 pub mod Numbers
 pub mod Header
 pub mod Block
-pub mod Parameters

@@ -12,7 +12,7 @@ use Rattle.begins.specs.declared.Lengths.{Lengths}
 use Rattle.begins.proofs.Rules.{Ruled, Inside}
 use Rattle.begins.proofs.Sectors.{reaches, round-mono}
 use Rattle.commands.specs.Block.{DATA-AT, payload}
-use Rattle.commands.specs.Parameters.{place}
+use Rattle.parameters.specs.Parameters.{place}
 use Rattle.commands.proofs.Rules.{data-length}
 use Rattle.sessions.specs.Session.{flashOpen, memoryOpen, announced, accepted, sessionGood}
 use Rattle.sessions.specs.declared.Session.{Session}

@@ -12,7 +12,7 @@ use Rattle.begins.specs.Begin.{flashRule, memoryRule}
 use Rattle.begins.specs.declared.Lengths.{Lengths}
 use Rattle.begins.proofs.Rules.{Ruled, ruled, Inside, inside}
 use Rattle.commands.specs.Header.{command}
-use Rattle.commands.specs.Parameters.{flashEndRule, memoryEndRule}
+use Rattle.parameters.specs.Parameters.{flashEndRule, memoryEndRule}
 use Rattle.notes.specs.Notes.{end-word, end-jump}
 use Rattle.sessions.specs.Session.{flashOpen, memoryOpen, announced, sessionGood}
 use Rattle.errors.specs.Errors.{kind, checks, errorOf}

@@ -6,12 +6,12 @@ use lib.Dec.{ltb, eqb}
 use Rattle.lists.specs.Checks.{Check, _orElse_, first}
 use Rattle.fields.specs.Places.{FIRST-WORD, SECOND-WORD}
 use Rattle.fields.specs.Words.{word}
-use Rattle.fields.specs.Pins.{attachGood}
+use Rattle.pins.specs.Pins.{attachGood}
 use Rattle.commands.specs.Numbers.{FLASH-BEGIN, FLASH-DATA, FLASH-END, MEM-BEGIN, MEM-END, MEM-DATA, SYNC, WRITE-REG, READ-REG, SPI-ATTACH, SPI-FLASH-MD5}
 use Rattle.commands.specs.Header.{FOUR-WORDS, command, shaped, dataShaped}
 use Rattle.begins.specs.Begin.{beginOf, flashRule, memoryRule}
 use Rattle.commands.specs.Block.{zeroWords, sumGood, paddingGood}
-use Rattle.commands.specs.Parameters.{flashEndRule, memoryEndRule, syncRule, registerRule, writeRule, digestRule}
+use Rattle.parameters.specs.Parameters.{flashEndRule, memoryEndRule, syncRule, registerRule, writeRule, digestRule}
 use Rattle.begins.specs.declared.Lengths.{Lengths}
 use Rattle.errors.specs.Numbers.{unknownCommand, wrongSize, noSession, wrongBlockSize, badParameter, allAccepted, outOfSequence, wrongChecksum, badPadding, blocksMissing}
 use Rattle.sessions.specs.Session.{flashOpen, memoryOpen, announced, accepted}

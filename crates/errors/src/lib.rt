@@ -120,7 +120,7 @@ pub fn error_of(lengths: Lengths, session: Session, packet: &[u8]) -> u8
         FLASH_END => end_error(
             commands::shape_good(packet, 4),
             flash_open(session),
-            commands::flash_end_good(packet),
+            parameters::flash_end_good(packet),
             session,
         ),
         MEM_BEGIN => plain_error(
@@ -130,29 +130,29 @@ pub fn error_of(lengths: Lengths, session: Session, packet: &[u8]) -> u8
         MEM_END => end_error(
             commands::shape_good(packet, 8),
             memory_open(session),
-            commands::memory_end_good(lengths, packet),
+            parameters::memory_end_good(lengths, packet),
             session,
         ),
         MEM_DATA => data_error(memory_open(session), session, packet),
         SYNC => plain_error(
             commands::shape_good(packet, 36),
-            commands::sync_good(packet),
+            parameters::sync_good(packet),
         ),
         WRITE_REG => plain_error(
             commands::shape_good(packet, FOUR_WORDS),
-            commands::write_good(lengths, packet),
+            parameters::write_good(lengths, packet),
         ),
         READ_REG => plain_error(
             commands::shape_good(packet, 4),
-            commands::register_good(lengths, fields::word_at(packet, FIRST_WORD)),
+            parameters::register_good(lengths, fields::word_at(packet, FIRST_WORD)),
         ),
         SPI_ATTACH => plain_error(
             commands::shape_good(packet, 4),
-            fields::attach_good(fields::word_at(packet, FIRST_WORD)),
+            pins::attach_good(fields::word_at(packet, FIRST_WORD)),
         ),
         SPI_FLASH_MD5 => plain_error(
             commands::shape_good(packet, FOUR_WORDS),
-            commands::digest_good(lengths, packet),
+            parameters::digest_good(lengths, packet),
         ),
         _ => UNKNOWN_COMMAND,
     }

@@ -1,5 +1,4 @@
 pub mod Words
 pub mod Checksum
 pub mod Mask
-pub mod Fields
 pub mod Theorems

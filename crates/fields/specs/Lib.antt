@@ -2,5 +2,4 @@ pub mod Places
 pub mod Words
 pub mod Checksum
 pub mod Merge
-pub mod Pins
 pub mod Theorems

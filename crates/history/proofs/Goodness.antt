@@ -15,7 +15,7 @@ use Rattle.commands.specs.Header.{command, shaped, dataShaped}
 use Rattle.begins.specs.Begin.{beginOf, flashRule, memoryRule}
 use Rattle.begins.specs.declared.Lengths.{Lengths}
 use Rattle.commands.specs.Block.{zeroWords, sumGood, paddingGood}
-use Rattle.commands.specs.Parameters.{flashEndRule}
+use Rattle.parameters.specs.Parameters.{flashEndRule}
 use Rattle.begins.specs.declared.Begin.{Begin}
 use Rattle.history.specs.Grammar.{flashBegin, memoryBegin, anyBegin, goodBlock, flashEnd}
 

@@ -9,7 +9,7 @@ use Rattle.lists.proofs.Tests.{absurd-test, both, neither, Passed}
 use Rattle.packets.specs.Packets.{Packet, dropped, read}
 use Rattle.commands.specs.Numbers.{FLASH-DATA, FLASH-END}
 use Rattle.commands.specs.Header.{command, shaped}
-use Rattle.commands.specs.Parameters.{flashEndRule}
+use Rattle.parameters.specs.Parameters.{flashEndRule}
 use Rattle.begins.specs.declared.Begin.{Begin}
 use Rattle.sessions.specs.Session.{flashOpen, memoryOpen, announced, accepted, advanced}
 use Rattle.errors.specs.Errors.{Kind, kind, flash-begin, flash-data, flash-end, memory-begin, memory-end, memory-data, sync, write-reg, read-reg, spi-attach, flash-digest, unknown, plainChecks, endChecks, checks}

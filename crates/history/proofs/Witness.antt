@@ -14,7 +14,7 @@ use Rattle.begins.specs.Begin.{sector, beginOf, roundUp, counted, flashRule}
 use Rattle.begins.specs.declared.Lengths.{Lengths}
 use Rattle.commands.specs.Header.{command, sized, shaped, dataShaped}
 use Rattle.commands.specs.Block.{payload, zeroWords, sumGood, padding, paddingGood}
-use Rattle.commands.specs.Parameters.{flashEndRule}
+use Rattle.parameters.specs.Parameters.{flashEndRule}
 use Rattle.history.specs.Grammar.{flashBegin, goodBlock, flashEnd, begins, packet, block, end}
 use Rattle.history.proofs.Reader.{none-yet}
 use Rattle.history.specs.Witness.{workedBegin, workedBlock, workedEnd, workedLine, WorkedFits}

@@ -13,7 +13,7 @@ use Rattle.commands.specs.Numbers.{FLASH-BEGIN, FLASH-DATA, FLASH-END, MEM-BEGI
 use Rattle.commands.specs.Header.{FOUR-WORDS, command, shaped, dataShaped}
 use Rattle.begins.specs.Begin.{beginOf, flashRule, memoryRule}
 use Rattle.commands.specs.Block.{payload, zeroWords, sumGood, paddingGood}
-use Rattle.commands.specs.Parameters.{flashEndRule}
+use Rattle.parameters.specs.Parameters.{flashEndRule}
 use Rattle.begins.specs.declared.Begin.{Begin}
 use Rattle.begins.specs.declared.Lengths.{Lengths}
 

@@ -5,7 +5,7 @@ use mathlib.Core.Bool.{true, false}
 use mathlib.Core.Logic.{_↔_}
 use Prim.Native.Nat.{ℕ, suc, _<_}
 use lib.ListN.{length, take}
-use Rattle.fields.specs.Pins.{attachGood}
+use Rattle.pins.specs.Pins.{attachGood}
 use Rattle.packets.specs.Packets.{Packet, read}
 use Rattle.commands.specs.Numbers.{SPI-FLASH-MD5}
 use Rattle.commands.specs.Header.{command}

@@ -7,7 +7,7 @@ use borrow.Author.Tests.{leb-true, le-leb}
 use lib.Dec.{leb}
 use Rattle.lists.specs.Checks.{_orElse_}
 use Rattle.lists.proofs.Tests.{both, Passed, first-passed, passed-first}
-use Rattle.fields.specs.Pins.{attachGood}
+use Rattle.pins.specs.Pins.{attachGood}
 use Rattle.framing.specs.Frame.{longest}
 use Rattle.sessions.specs.Session.{sessionGood}
 use Rattle.answers.specs.Reply.{longestAnswer}

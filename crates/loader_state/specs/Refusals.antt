@@ -4,7 +4,7 @@ use mathlib.Core.Bool.{Bool, _&&_}
 use Prim.Native.Nat.{ℕ, _%_}
 use lib.Dec.{leb, eqb}
 use Rattle.lists.specs.Checks.{Check, _orElse_, first}
-use Rattle.fields.specs.Pins.{attachGood}
+use Rattle.pins.specs.Pins.{attachGood}
 use Rattle.framing.specs.Frame.{longest}
 use Rattle.begins.specs.Begin.{sector}
 use Rattle.begins.specs.declared.Lengths.{Lengths}

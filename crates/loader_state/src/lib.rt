@@ -49,7 +49,7 @@ fn record_good(lengths: Lengths, loader: Loader) -> bool
 {
     let line = loader.line;
     let session = loader.session;
-    (line.held <= LONGEST) & (session_good(lengths, session) & fields::attach_good(loader.attach))
+    (line.held <= LONGEST) & (session_good(lengths, session) & pins::attach_good(loader.attach))
 }
 
 // The number that a call is refused with, by its record and the lengths of its buffers; 0 where it is not.

@@ -4,7 +4,8 @@ ghost use Rattle.claims.specs.ChangesNothing.{FailedChangesNothing, RunFailedCh
 ghost use Rattle.packets.specs.Theorems.{RoundTrip, FrameComesBack, CutOfFrame, StepsAreCut};
 ghost use Rattle.packets.specs.Theorems.{FirstDecides, DroppedAsBefore};
 ghost use Rattle.runs.specs.Theorems.{TakesMost, TakesSome, GoesOn, StaysClosed, RunComesBack};
-ghost use Rattle.fields.specs.Theorems.{WordBack, PackedSays};
+ghost use Rattle.fields.specs.Theorems.{WordBack};
+ghost use Rattle.pins.specs.Theorems.{PackedSays};
 ghost use Rattle.begins.specs.Count.{CountIsDividedUp};
 ghost use Rattle.digest.specs.Suite.{Rfc1321Suite};
 ghost use Rattle.digest.specs.Theorems.{PaddedAsSaid, SixteenBytes};

@@ -5,7 +5,7 @@ use lib.ListN.{getD, set}
 use Rattle.fields.specs.Words.{word}
 use Rattle.fields.specs.Merge.{merged}
 use Rattle.fields.specs.Places.{FIRST-WORD, SECOND-WORD, THIRD-WORD}
-use Rattle.commands.specs.Parameters.{place}
+use Rattle.parameters.specs.Parameters.{place}
 
 -- "the word is the value": the word that the address names
 unfoldable pub registerRead : List ℕ → List ℕ → ℕ

@@ -9,7 +9,7 @@ ghost use Rattle.registers.specs.Registers.{registerRead, registerWritte
 pub fn write(packet: &[u8], words: &mut [u32])
     ensures { λ r. ⌜ now (words .exit) ≡ registerWritten (now (packet .entry)) (now (words .entry)) ⌝ }
 {
-    let at = commands::place_of(fields::word_at(packet, FIRST_WORD) as u64);
+    let at = parameters::place_of(fields::word_at(packet, FIRST_WORD) as u64);
     if at < words.len() {
         let old = words[at];
         words[at] = fields::merge(
@@ -24,7 +24,7 @@ pub fn write(packet: &[u8], words: &mut [u32])
 pub fn read(packet: &[u8], words: &[u32]) -> u32
     ensures { λ r. ⌜ r ≡ registerRead (now (packet .entry)) (now (words .entry)) ⌝ }
 {
-    let at = commands::place_of(fields::word_at(packet, FIRST_WORD) as u64);
+    let at = parameters::place_of(fields::word_at(packet, FIRST_WORD) as u64);
     if at < words.len() {
         return words[at];
     }

@@ -1,9 +1,9 @@
 // The operations on bytes alone. What they give stands at the front of a buffer, and they say how many bytes it is.
 use crate::names;
 use fields::FIRST_WORD;
-use fields::Packed;
-use fields::Pins;
 use fields::word_at;
+use pins::Packed;
+use pins::Pins;
 use tables::put_byte;
 use tables::put_word;
 
@@ -26,7 +26,7 @@ fn pack(bytes: &[u8]) -> u32 {
         cs: word_at(bytes, 12),
         clk: word_at(bytes, 16),
     };
-    word_of(fields::pack(pins))
+    word_of(pins::pack(pins))
 }
 
 // The merge of three words: the old one, the value, the mask.

@@ -1,4 +1,4 @@
-use Rattle.fields.proofs.Theorems.{packed-says}
+use Rattle.pins.proofs.Theorems.{packed-says}
 use Rattle.promises.proofs.packed_says.Statement.{statement}
 use Rattle.promises.proofs.packed_says.Tie as tie
 
