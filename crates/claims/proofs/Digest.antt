@@ -2,7 +2,7 @@
 use mathlib.Core.Path.{_≡_, refl, ap, _∙_}
 use mathlib.Core.List.{List, [], _∷_, _++_}
 use mathlib.Core.Bool.{Bool, true, false}
-use Prim.Native.Nat.{ℕ, _+_}
+use Prim.Native.Nat.{ℕ, _+_, _≤_}
 use native.Mathlib.Omega.{arith}
 use borrow.Author.Tests.{eqb-true, leb-true, le-leb, eq-eqb}
 use lib.Dec.{eqb}
@@ -10,7 +10,7 @@ use lib.ListN.{length, length-append}
 use Rattle.lists.specs.Checks.{first}
 use Rattle.lists.proofs.Tests.{both}
 use Rattle.fields.specs.Words.{word}
-use Rattle.fields.specs.Places.{THIRD-WORD}
+use Rattle.fields.specs.Places.{FIRST-WORD, SECOND-WORD, THIRD-WORD, FOURTH-WORD}
 use Rattle.lists.specs.Lay.{lay}
 use Rattle.framing.specs.Frame.{framed}
 use Rattle.digest.specs.Digest.{md5Of}
@@ -42,7 +42,11 @@ use Rattle.claims.proofs.ChangesNothing.{closing, error, read-fails, ju
 module _ (l : Lengths) (p : List ℕ) where
   ruled : GoodWords p (l .flash) → digestRule l p ≡ true
   unfolding digestRule zeroWords
-  ruled n = rw (eq-eqb _ 0 (n .third), eq-eqb _ 0 (n .fourth), le-leb _ _ (n .within))
+  ruled n =
+      let third : word p THIRD-WORD ≡ 0 = n .third in
+      let fourth : word p FOURTH-WORD ≡ 0 = n .fourth in
+      let within : word p FIRST-WORD + word p SECOND-WORD ≤ l .flash = n .within in
+      rw (eq-eqb _ 0 third, eq-eqb _ 0 fourth, le-leb _ _ within) refl
 
   by-rule : digestRule l p ≡ true → GoodWords p (l .flash)
   unfolding digestRule zeroWords
