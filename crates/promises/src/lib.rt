@@ -6,6 +6,7 @@ ghost use Rattle.packets.specs.Theorems.{FirstDecides, DroppedAsBefore};
 ghost use Rattle.runs.specs.Theorems.{TakesMost, TakesSome, GoesOn, StaysClosed, RunComesBack};
 ghost use Rattle.fields.specs.Theorems.{WordBack};
 ghost use Rattle.pins.specs.Theorems.{PackedSays};
+ghost use Rattle.parameters.specs.Theorems.{RegisterHasPlace};
 ghost use Rattle.begins.specs.Count.{CountIsDividedUp};
 ghost use Rattle.digest.specs.Suite.{Rfc1321Suite};
 ghost use Rattle.digest.specs.Theorems.{PaddedAsSaid, SixteenBytes};
@@ -108,6 +109,11 @@ pub fn frame_arrives()
 // A run that begins with a framed packet, handed to the loader at once, is taken up to the frame's end and is that packet handled.
 pub fn run_arrives()
     ensures { λ r. ⌜ RunArrives ⌝ }
+{}
+
+// An address that READ_REG and WRITE_REG let pass has a place among the words.
+pub fn register_has_place()
+    ensures { λ r. ⌜ RegisterHasPlace ⌝ }
 {}
 
 // A word's four bytes, least first, are read back as the word.
