@@ -1,19 +1,19 @@
--- The theorem of specs/Count: n*b from S up to less than S + b has one n, and that is S/b rounded up.
-use Prim.Native.Nat.{ℕ, _+_, _*_, _/_, _%_, _≤_, _<_}
+-- n*b from S up to less than S + b has one n: S/b rounded up, which is the theorem of specs/Count, and as the code has it.
+use Prim.Native.Nat.{ℕ, _+_, _-_, _*_, _/_, _%_, _≤_, _<_}
 use mathlib.Core.Path.{_≡_, refl}
 use mathlib.Core.Bool.{Bool, true, false, cond, _&&_}
-use native.Mathlib.Nat.{mul-le-mul-right, div-add-mod', mod-lt}
+use native.Mathlib.Nat.{mul-le-mul-right, mul-zero, zero-mul, div-add-mod', mod-lt}
 use native.Mathlib.Omega.{arith}
 use borrow.Author.Tests.{leb-true, leb-false, le-leb, lt-leb, lt-ltb, le-ltb, eq-eqb, ne-eqb, eqb-true, eqb-false}
 use lib.Dec.{leb, ltb, eqb}
 use Rattle.begins.specs.Begin.{counted}
-use Rattle.begins.specs.Count.{dividedUp, CountIsDividedUp}
+use Rattle.begins.specs.Count.{dividedUp, CountIsDividedUp, NoneOfBlock0}
 use Rattle.begins.proofs.Sectors.{next-block}
 
 -- m*b reaches S, and is less than b past it
-record Fills (s b m : ℕ) : Type 0 where
-  enough : s ≤ m * b
-  tight : m * b < s + b
+pub record Fills (s b m : ℕ) : Type 0 where
+  pub enough : s ≤ m * b
+  pub tight : m * b < s + b
 
 by-test : (s b : ℕ) (t : Bool) {m n : ℕ} → (t ≡ true → Fills s b m) → (t ≡ false → Fills s b n) → Fills s b (cond t m n)
 by-test s b true f g = f refl
@@ -29,8 +29,20 @@ up s b h =
     (λ t. let z = eqb-true (s % b) 0 t in record { enough = omega arith; tight = omega arith })
     (λ t. let z = eqb-false (s % b) 0 t in record { enough = omega arith; tight = omega arith })
 
+-- no blocks do, of no bytes
+pub none : (b : ℕ) → 1 ≤ b → Fills 0 b 0
+none b h = let z = zero-mul b in record { enough = omega arith; tight = omega arith }
+
+-- of S from 1, one more than (S - 1)/b blocks do
+pub one-less : (s b : ℕ) → 1 ≤ s → 1 ≤ b → Fills s b ((s - 1) / b + 1)
+one-less s b h k =
+    let d = div-add-mod' (s - 1) b in
+    let e = next-block ((s - 1) / b) b in
+    let l = mod-lt (s - 1) {m = b} (omega arith) in
+    record { enough = omega arith; tight = omega arith }
+
 -- no other n does
-alone : (s b m n : ℕ) → Fills s b m → (leb s (n * b) && ltb (n * b) (s + b)) ≡ eqb n m
+pub alone : (s b m n : ℕ) → Fills s b m → (leb s (n * b) && ltb (n * b) (s + b)) ≡ eqb n m
 alone s b m n f = go (leb n m) (leb m n) refl refl
   where
     go : (t u : Bool) → leb n m ≡ t → leb m n ≡ u → (leb s (n * b) && ltb (n * b) (s + b)) ≡ eqb n m
@@ -47,6 +59,18 @@ alone s b m n f = go (leb n m) (leb m n) refl refl
         let l = mul-le-mul-right {m = m + 1} {n = n} b (omega arith) in
         let e = next-block m b in
         rw (le-leb s (n * b) (omega arith), le-ltb (n * b) (s + b) (omega arith), ne-eqb n m (λ e. omega arith))
+
+-- blocks of no bytes fill no size
+no-block : (s n : ℕ) → (leb s (n * 0) && ltb (n * 0) (s + 0)) ≡ false
+no-block s n = rw (mul-zero n) (go (leb s 0) refl)
+  where
+    go : (t : Bool) → leb s 0 ≡ t → (leb s 0 && ltb 0 (s + 0)) ≡ false
+    go true p = let h = leb-true s 0 p in rw (p, le-ltb 0 (s + 0) (omega arith)) refl
+    go false p = rw p refl
+
+pub none-of-block-0 : NoneOfBlock0
+unfolding counted
+none-of-block-0 g e = rw e (no-block (g .size) (g .count))
 
 pub count-is-divided-up : CountIsDividedUp
 unfolding counted

@@ -1,4 +1,4 @@
-pub mod Products
 pub mod Sectors
+pub mod Quotients
 pub mod Rules
 pub mod Count

@@ -1,6 +1,6 @@
 -- "n = S/b rounded up", written with the division.
 use mathlib.Core.Path.{_≡_}
-use mathlib.Core.Bool.{cond}
+use mathlib.Core.Bool.{false, cond}
 use Prim.Native.Nat.{ℕ, _+_, _/_, _%_, _≤_}
 use lib.Dec.{eqb}
 use Rattle.begins.specs.Begin.{counted}
@@ -13,3 +13,7 @@ dividedUp s b = cond (eqb (s % b) 0) (s / b) (s / b + 1)
 -- for every BEGIN with b from 1, the count is good exactly where it is S/b rounded up
 abbrev pub CountIsDividedUp : Type 0
 CountIsDividedUp = (g : Begin) → 1 ≤ g .block → counted g ≡ eqb (g .count) (dividedUp (g .size) (g .block))
+
+-- and with b = 0 no count is good, whatever the size
+abbrev pub NoneOfBlock0 : Type 0
+NoneOfBlock0 = (g : Begin) → g .block ≡ 0 → counted g ≡ false

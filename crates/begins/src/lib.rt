@@ -1,6 +1,6 @@
 // What a BEGIN announces, and the rules for its numbers.
 ghost use mathlib.Core.Path.{_≡_};
-ghost use Prim.Native.Nat.{_+_, min};
+ghost use Prim.Native.Nat.{_+_};
 ghost use lib.Dec.{leb};
 ghost use Rattle.begins.specs.Begin.{beginOf, roundUp, counted, flashRule, memoryEnd, memoryRule, reached};
 use fields::FIRST_WORD;
@@ -35,7 +35,7 @@ pub fn begin_of(packet: &[u8]) -> Begin
 }
 
 // A sector's length in bytes.
-pub const SECTOR: u64 = 4096;
+pub const SECTOR: u32 = 4096;
 
 // The largest block.
 pub const LARGEST_BLOCK: u32 = 4096;
@@ -44,16 +44,23 @@ pub const LARGEST_BLOCK: u32 = 4096;
 pub fn round_up(x: u32) -> u64
     ensures { λ r. ⌜ r ≡ roundUp x ⌝ }
 {
-    (x as u64 + (SECTOR - 1)) / SECTOR * SECTOR
+    x as u64 + ((SECTOR - x % SECTOR) % SECTOR) as u64
 }
 
-// Whether the block count is the size over the block size, rounded up.
+// Whether the block count is the size over the block size, rounded up: with S from 1 this is (S - 1)/b + 1. No product, and a sum of
+// at most S.
 fn count_good(begin: Begin) -> bool
     ensures { λ r. ⌜ r ≡ counted begin ⌝ }
 {
-    let all = begin.count as u64 * begin.block as u64;
-    let size = begin.size as u64;
-    (size <= all) & (all < size + begin.block as u64)
+    let size = begin.size;
+    let block = begin.block;
+    if block == 0 {
+        return false;
+    }
+    if size == 0 {
+        return begin.count == 0;
+    }
+    begin.count == (size - 1) / block + 1
 }
 
 // Whether a flash BEGIN's numbers are good.
@@ -61,8 +68,8 @@ pub fn flash_good(lengths: Lengths, begin: Begin) -> bool
     ensures { λ r. ⌜ r ≡ flashRule lengths begin ⌝ }
 {
     let block = begin.block;
-    let offset = begin.offset as u64;
-    let last = offset + round_up(begin.size);
+    let offset = begin.offset;
+    let last = offset as u64 + round_up(begin.size);
     let placed = (offset % SECTOR == 0) & (last <= lengths.flash as u64);
     (1 <= block) & ((block <= LARGEST_BLOCK) & (count_good(begin) & placed))
 }
@@ -70,7 +77,8 @@ pub fn flash_good(lengths: Lengths, begin: Begin) -> bool
 // The address of the first word.
 pub const MEMORY_START: u32 = 0x40100000;
 
-// Whether an address is at most the one past the last word. Divided and not multiplied, so that no count of words wraps.
+// Whether an address is at most the one past the last word. The words are doubled twice and not multiplied; so many that this would
+// wrap reach past every address.
 pub fn up_to_end(lengths: Lengths, address: u64) -> bool
     ensures { λ r. ⌜ r ≡ leb address (memoryEnd lengths) ⌝ }
 {
@@ -79,7 +87,11 @@ pub fn up_to_end(lengths: Lengths, address: u64) -> bool
         return true;
     }
     let words = lengths.words as u64;
-    if (address - start + 3) / 4 <= words {
+    if 0x4000_0000_0000_0000 <= words {
+        return true;
+    }
+    let twice = words + words;
+    if address - start <= twice + twice {
         return true;
     }
     false
@@ -98,28 +110,25 @@ pub fn memory_good(lengths: Lengths, begin: Begin) -> bool
     (4 <= block) & ((block <= LARGEST_BLOCK) & (count_good(begin) & aligned))
 }
 
-// The smaller of two numbers, the second of 32 bits.
-fn at_most(n: u64, most: u32) -> u32
-    ensures { λ r. ⌜ r ≡ min n most ⌝ }
-{
-    if n < most as u64 {
-        return n as u32;
-    }
-    most
-}
-
-// How many bytes k blocks reach, of the announced size.
+// How many bytes k blocks reach, of the announced size. The product is taken only where it is at most the size.
 pub fn reach(begin: Begin, k: u32) -> u32
     ensures { λ r. ⌜ r ≡ reached begin k ⌝ }
 {
-    let all = k as u64 * begin.block as u64;
-    at_most(all, begin.size)
+    let size = begin.size;
+    let block = begin.block;
+    if block == 0 {
+        return 0;
+    }
+    if k <= size / block { k * block } else { size }
 }
 
-// How many bytes are reached once block k is accepted too. The sum k + 1 is taken in 64 bits.
+// How many bytes are reached once block k is accepted too: a block more, or all.
 pub fn reach_after(begin: Begin, k: u32) -> u32
     ensures { λ r. ⌜ r ≡ reached begin (k + 1) ⌝ }
 {
-    let more = (k as u64 + 1) * begin.block as u64;
-    at_most(more, begin.size)
+    let size = begin.size;
+    let block = begin.block;
+    let old = reach(begin, k);
+    let left = size - old;
+    if block <= left { old + block } else { size }
 }

@@ -34,7 +34,7 @@ fn pack_at(words: &mut [u32], at: usize, packet: &[u8], n: usize)
 {
     let mut i: usize = 0;
     while i < n {
-        words[at + i] = fields::word_at(packet, DATA_AT + 4 * i);
+        words[at + i] = fields::word_at(packet, DATA_AT + (4 * i as u32) as usize);
         i += 1;
     }
 }
@@ -47,9 +47,9 @@ pub fn write_words(begin: Begin, k: u32, packet: &[u8], words: &mut [u32])
     let old = begins::reach(begin, k);
     let new = begins::reach_after(begin, k);
     let at = parameters::place_of(begin.offset as u64 + old as u64);
-    let size = (new - old) as usize;
-    let n = size / 4;
-    if DATA_AT + size <= packet.len() {
+    let size = new - old;
+    let n = (size / 4) as usize;
+    if DATA_AT + size as usize <= packet.len() {
         if n <= words.len() {
             if at <= words.len() - n {
                 pack_at(words, at, packet, n);

@@ -105,7 +105,6 @@ pub fn sum_good(packet: &[u8]) -> bool
 pub fn padding_good(begin: Begin, k: u32, packet: &[u8]) -> bool
     ensures { λ r. ⌜ r ≡ paddingGood begin k (now (packet .entry)) ⌝ }
 {
-    let before = k as usize * begin.block as usize;
-    let left = past(begin.size as usize, before);
-    lists::all_from(packet, DATA_AT + left, 0xFF)
+    let left = begin.size - begins::reach(begin, k);
+    lists::all_from(packet, DATA_AT + left as usize, 0xFF)
 }

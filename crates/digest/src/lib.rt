@@ -6,6 +6,7 @@ use fields::bytes_of;
 use fields::word_at;
 ghost use mathlib.Core.Path.{_≡_};
 ghost use mathlib.Core.List.{_++_};
+ghost use Prim.Native.Nat.{_%_, _^_};
 ghost use lib.ListN.{length, take, drop};
 ghost use Rattle.fields.specs.Words.{bytesOf};
 ghost use Rattle.digest_block.specs.Tables.{sines};
@@ -50,19 +51,33 @@ fn two_words(x: u32, y: u32) -> [u8; 8]
     [a[0], a[1], a[2], a[3], b[0], b[1], b[2], b[3]]
 }
 
+// The low-order word of a number.
+fn low_word(x: usize) -> u32
+    ensures { λ r. ⌜ r ≡ x % 2 ^ 32 ⌝ }
+{
+    (x & 0xFFFF_FFFF) as u32
+}
+
 // The length in bits: the low-order 64 of them, as two words, the low-order one first.
 fn length_bytes(n: usize) -> [u8; 8]
     ensures { λ r. ⌜ r ≡ lengthOf n ⌝ }
 {
     let bits = n << 3;
-    two_words((bits % 0x1_0000_0000) as u32, (bits / 0x1_0000_0000) as u32)
+    two_words(low_word(bits), (bits >> 32) as u32)
+}
+
+// How many of n bytes stand behind the last whole block.
+fn rest(n: usize) -> usize
+    ensures { λ r. ⌜ r ≡ n % 64 ⌝ }
+{
+    n & 63
 }
 
 // How long the tail is: a block, or two where the length does not fit into the block in which the message ends.
 fn tail_size(n: usize) -> usize
     ensures { λ r. ⌜ r ≡ tailSize n ⌝ }
 {
-    if n % 64 < 56 { 64 } else { 128 }
+    if rest(n) < 56 { 64 } else { 128 }
 }
 
 // The tail of the padded message, at the front of two blocks; what stands behind it is not used.
@@ -70,9 +85,10 @@ fn tail(m: &[u8]) -> [u8; 128]
     ensures { λ t. ⌜ take (tailSize (length (now (m .entry)))) t ≡ tailOf (now (m .entry)) ⌝ }
 {
     let n = m.len();
+    let behind = rest(n);
     let mut t = [0u8; 128];
-    lists::copy_at(&mut t, 0, from(m, n / 64 * 64));
-    t[n % 64] = 0x80;
+    lists::copy_at(&mut t, 0, from(m, n - behind));
+    t[behind] = 0x80;
     let bits = length_bytes(n);
     lists::copy_at(&mut t, tail_size(n) - 8, &bits);
     t
@@ -99,7 +115,7 @@ fn words(s: &[u8]) -> BlockWords
     let mut x = [0u32; 16];
     let mut k: usize = 0;
     while k < 16 {
-        x[k] = word_at(s, 4 * k);
+        x[k] = word_at(s, (4 * k as u32) as usize);
         k += 1;
     }
     x

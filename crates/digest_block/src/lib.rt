@@ -97,7 +97,7 @@ pub fn table() -> Sines
 }
 
 // The k of operation `j` of round `n`.
-fn place(n: usize, j: usize) -> usize
+fn place(n: u32, j: u32) -> u32
     requires { ⌜ (n < 4) × (j < 16) ⌝ }
     ensures { λ k. ⌜ (k ≡ placeOf n j) × (k < 16) ⌝ }
 {
@@ -110,7 +110,7 @@ fn place(n: usize, j: usize) -> usize
 }
 
 // The function of round `n`: F, G, H or I.
-fn mix(n: usize, x: u32, y: u32, z: u32) -> u32
+fn mix(n: u32, x: u32, y: u32, z: u32) -> u32
     requires { ⌜ n < 4 ⌝ }
     ensures { λ r. ⌜ r ≡ mixed n x y z ⌝ }
 {
@@ -131,13 +131,13 @@ fn rotate(x: u32, s: u32) -> u32
 }
 
 // Operation `j` of round `n`, with its rotation.
-fn operation(r: Registers, n: usize, j: usize, x: &BlockWords, t: &Sines, s: u32) -> Registers
+fn operation(r: Registers, n: u32, j: u32, x: &BlockWords, t: &Sines, s: u32) -> Registers
     requires { ⌜ (n < 4) × (j < 16) × ((0 < s) × (s < 32)) ⌝ }
     ensures { λ o. ⌜ o ≡ operationOf (now (t .entry)) n j s r (now (x .entry)) ⌝ }
 {
-    let k = place(n, j);
+    let k = place(n, j) as usize;
     let f = wrapping_add_u32(r.a, mix(n, r.b, r.c, r.d));
-    let v = wrapping_add_u32(wrapping_add_u32(f, x[k]), t[16 * n + j]);
+    let v = wrapping_add_u32(wrapping_add_u32(f, x[k]), t[(16 * n + j) as usize]);
     let b = wrapping_add_u32(r.b, rotate(v, s));
     Registers {
         a: r.d,
@@ -151,8 +151,8 @@ fn operation(r: Registers, n: usize, j: usize, x: &BlockWords, t: &Sines, s: u32
 // is compiled to rotations by constants.
 fn four(
     r: Registers,
-    n: usize,
-    j: usize,
+    n: u32,
+    j: u32,
     x: &BlockWords,
     t: &Sines,
     s0: u32,
@@ -172,7 +172,7 @@ fn four(
 // Round `n`.
 fn round(
     r: Registers,
-    n: usize,
+    n: u32,
     x: &BlockWords,
     t: &Sines,
     s0: u32,

@@ -7,7 +7,7 @@ ghost use Rattle.runs.specs.Theorems.{TakesMost, TakesSome, GoesOn, StaysClosed
 ghost use Rattle.fields.specs.Theorems.{WordBack};
 ghost use Rattle.pins.specs.Theorems.{PackedSays};
 ghost use Rattle.parameters.specs.Theorems.{RegisterHasPlace};
-ghost use Rattle.begins.specs.Count.{CountIsDividedUp};
+ghost use Rattle.begins.specs.Count.{CountIsDividedUp, NoneOfBlock0};
 ghost use Rattle.digest.specs.Suite.{Rfc1321Suite};
 ghost use Rattle.digest.specs.Theorems.{PaddedAsSaid, SixteenBytes};
 ghost use Rattle.claims.specs.Digest.{DigestAnswered, RunDigestAnswered, LoadIsDigested};
@@ -129,6 +129,11 @@ pub fn packed_says()
 // The test of a BEGIN's block count, n*b from S up to less than S + b, says n = S/b rounded up.
 pub fn count_is_divided_up()
     ensures { λ r. ⌜ CountIsDividedUp ⌝ }
+{}
+
+// With b = 0 it holds of no count.
+pub fn none_of_block_0()
+    ensures { λ r. ⌜ NoneOfBlock0 ⌝ }
 {}
 
 // ---- Runs: a whole read is fed as its bytes are.

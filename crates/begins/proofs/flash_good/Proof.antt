@@ -5,8 +5,8 @@ use borrow.Author.Needs.{needs}
 use Rattle.begins.proofs.flash_good.Statement.{statement}
 use Rattle.begins.proofs.flash_good.Tie as tie
 
-cast-offset : tie.Need-cast-offset
-cast-offset c = search needs
+cast-last : tie.Need-cast-last
+cast-last c = search needs
 
 round-up-requires : tie.Need-round-up-requires
 round-up-requires c κs = search needs
@@ -24,4 +24,4 @@ returns c = rw (c .count-good .ensures, c .before .round-up .ensures) refl
 
 pub flash-good-spec : {M : Type 1} → statement M
 flash-good-spec =
-    tie.close (tie.spec cast-offset round-up-requires add-last count-good-requires returns)
+    tie.close (tie.spec cast-last round-up-requires add-last count-good-requires returns)

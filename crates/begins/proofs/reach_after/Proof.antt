@@ -1,26 +1,37 @@
-use mathlib.Core.Path.{refl}
+-- One block more than k is the product and a block.
+use Prim.Native.Nat.{ℕ}
 use native.Mathlib.Omega.{arith}
-use Rattle.begins.specs.Begin.{reached}
-use Rattle.begins.proofs.Products.{product-fits-up}
 use borrow.Author.Needs.{needs}
+use Rattle.begins.specs.Begin.{reached}
+use Rattle.begins.proofs.Sectors.{next-block}
 use Rattle.begins.proofs.reach_after.Statement.{statement}
 use Rattle.begins.proofs.reach_after.Tie as tie
 
-add-more : tie.Need-add-more
-add-more c = search needs
+reach-requires : tie.Need-reach-requires
+reach-requires c κs = search needs
 
-cast-more : tie.Need-cast-more
-cast-more c = search needs
+sub-left : tie.Need-sub-left
+unfolding reached
+sub-left c = omega (arith, c .reach .ensures)
 
-mul-more : tie.Need-mul-more
-mul-more c = product-fits-up (omega arith) (omega arith)
-
-at-most-requires : tie.Need-at-most-requires
-at-most-requires c κs = search needs
+add-result : tie.Need-add-result
+add-result c = search needs
 
 returns : tie.Need-returns
 unfolding reached
-returns c = rw (c .at-most .ensures) refl
+returns c =
+    let g = c .before .before .args .begin in
+    let k : ℕ = c .before .before .args .k in
+    let e = next-block k (g .block) in
+    omega (arith, c .before .reach .ensures)
+
+returns-2 : tie.Need-returns-2
+unfolding reached
+returns-2 c =
+    let g = c .before .before .args .begin in
+    let k : ℕ = c .before .before .args .k in
+    let e = next-block k (g .block) in
+    omega (arith, c .before .reach .ensures)
 
 pub reach-after-spec : {M : Type 1} → statement M
-reach-after-spec = tie.close (tie.spec add-more cast-more mul-more at-most-requires returns)
+reach-after-spec = tie.close (tie.spec reach-requires sub-left add-result returns returns-2)

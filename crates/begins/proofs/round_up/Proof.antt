@@ -1,5 +1,5 @@
+use native.Mathlib.Omega.{arith}
 use Rattle.begins.specs.Begin.{roundUp}
-use mathlib.Core.Path.{refl}
 use borrow.Author.Needs.{needs}
 use Rattle.begins.proofs.round_up.Statement.{statement}
 use Rattle.begins.proofs.round_up.Tie as tie
@@ -7,15 +7,15 @@ use Rattle.begins.proofs.round_up.Tie as tie
 sub-result : tie.Need-sub-result
 sub-result c = search needs
 
+cast-result : tie.Need-cast-result
+cast-result c = search needs
+
 add-result : tie.Need-add-result
 add-result c = search needs
 
-mul-result : tie.Need-mul-result
-mul-result c = search needs
-
 returns : tie.Need-returns
 unfolding roundUp
-returns c = refl
+returns c = omega arith
 
 pub round-up-spec : {M : Type 1} → statement M
-round-up-spec = tie.close (tie.spec sub-result add-result mul-result returns)
+round-up-spec = tie.close (tie.spec sub-result cast-result add-result returns)

@@ -22,8 +22,14 @@ loop-holds : tie.Need-loop-holds Inv-loop μ-loop
 unfolding wordsOf
 loop-holds c = (omega arith, refl, sym (lay-nil _ _))
 
+cast-word-at : tie.Need-cast-word-at Inv-loop μ-loop
+cast-word-at c = search needs
+
 mul-word-at : tie.Need-mul-word-at Inv-loop μ-loop
 mul-word-at c = search needs
+
+cast-word-at-2 : tie.Need-cast-word-at-2 Inv-loop μ-loop
+cast-word-at-2 c = search needs
 
 add-word-at : tie.Need-add-word-at Inv-loop μ-loop
 add-word-at c = search needs
@@ -63,7 +69,9 @@ pack-at-spec =
     Inv-loop
     μ-loop
     loop-holds
+    cast-word-at
     mul-word-at
+    cast-word-at-2
     add-word-at
     word-at-requires
     add-words

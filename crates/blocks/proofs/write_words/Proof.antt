@@ -26,8 +26,11 @@ place-of-requires c κs = search needs
 sub-size : tie.Need-sub-size
 sub-size c = rw (c .before .before .before .reach .ensures, c .before .before .reach-after .ensures) (reaches _ _ .up)
 
-cast-size : tie.Need-cast-size
-cast-size c = search needs
+cast-n : tie.Need-cast-n
+cast-n c = search needs
+
+cast-if1 : tie.Need-cast-if1
+cast-if1 c = search needs
 
 add-if1 : tie.Need-add-if1
 add-if1 c = search needs
@@ -86,7 +89,8 @@ write-words-spec =
     add-place-of
     place-of-requires
     sub-size
-    cast-size
+    cast-n
+    cast-if1
     add-if1
     sub-if3
     pack-at-requires

@@ -1,23 +1,23 @@
-use mathlib.Core.Path.{refl}
+-- What k blocks leave of the size is where the padding begins.
+use Prim.Native.Nat.{ℕ, _-_, _*_}
+use mathlib.Core.Path.{_≡_, refl}
 use native.Mathlib.Omega.{arith}
-use Rattle.begins.proofs.Products.{product-fits}
+use Rattle.begins.specs.Begin.{reached}
 use Rattle.commands.specs.Block.{paddingGood, padding, payload}
 use lib.Seq.{drop-drop}
 use borrow.Author.Needs.{needs}
 use Rattle.commands.proofs.padding_good.Statement.{statement}
 use Rattle.commands.proofs.padding_good.Tie as tie
 
-cast-before : tie.Need-cast-before
-cast-before c = search needs
+reach-requires : tie.Need-reach-requires
+reach-requires c κs = search needs
 
-mul-before : tie.Need-mul-before
-mul-before c = product-fits (omega arith) (omega arith)
+sub-left : tie.Need-sub-left
+unfolding reached
+sub-left c = omega (arith, c .before .reach .ensures)
 
-cast-past : tie.Need-cast-past
-cast-past c = search needs
-
-past-requires : tie.Need-past-requires
-past-requires c κs = search needs
+cast-all-from : tie.Need-cast-all-from
+cast-all-from c = search needs
 
 add-all-from : tie.Need-add-all-from
 add-all-from c = search needs
@@ -26,17 +26,14 @@ all-from-requires : tie.Need-all-from-requires
 all-from-requires c κs = search needs
 
 returns : tie.Need-returns
-unfolding paddingGood padding payload
-returns c = rw (drop-drop, c .all-from .ensures, c .before .past .ensures) refl
+unfolding reached paddingGood padding payload
+returns c =
+    let g = c .before .before .before .before .args .begin in
+    let k : ℕ = c .before .before .before .before .args .k in
+    let e : g .size - c .before .before .reach .result ≡ g .size - k * g .block = omega (arith, c .before .before .reach .ensures) in
+    rw (drop-drop, c .all-from .ensures, e) refl
 
 pub padding-good-spec : {M : Type 1} → statement M
 padding-good-spec =
     tie.close
-    (tie.spec
-    cast-before
-    mul-before
-    cast-past
-    past-requires
-    add-all-from
-    all-from-requires
-    returns)
+    (tie.spec reach-requires sub-left cast-all-from add-all-from all-from-requires returns)

@@ -16,8 +16,14 @@ abbrev μ-loop : tie.MeasureT-loop
 loop-holds : tie.Need-loop-holds Inv-loop μ-loop
 loop-holds c = (omega arith, filled-none (c .before .args .s .now))
 
+cast-word-at : tie.Need-cast-word-at Inv-loop μ-loop
+cast-word-at c = omega arith
+
 mul-word-at : tie.Need-mul-word-at Inv-loop μ-loop
 mul-word-at c = omega arith
+
+cast-word-at-2 : tie.Need-cast-word-at-2 Inv-loop μ-loop
+cast-word-at-2 c = omega arith
 
 word-at-requires : tie.Need-word-at-requires Inv-loop μ-loop
 word-at-requires c κs = search needs
@@ -49,7 +55,9 @@ words-spec =
     Inv-loop
     μ-loop
     loop-holds
+    cast-word-at
     mul-word-at
+    cast-word-at-2
     word-at-requires
     mul-x
     array-write-x

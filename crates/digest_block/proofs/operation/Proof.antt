@@ -7,6 +7,9 @@ use Rattle.digest_block.proofs.operation.Tie as tie
 place-requires : tie.Need-place-requires
 place-requires c κs = search needs
 
+cast-k : tie.Need-cast-k
+cast-k c = search needs
+
 mix-requires : tie.Need-mix-requires
 mix-requires c κs = search needs
 
@@ -27,6 +30,9 @@ mul-wrapping-add-u32-2 c = search needs
 
 add-wrapping-add-u32 : tie.Need-add-wrapping-add-u32
 add-wrapping-add-u32 c = search needs
+
+cast-wrapping-add-u32 : tie.Need-cast-wrapping-add-u32
+cast-wrapping-add-u32 c = search needs
 
 mul-wrapping-add-u32-3 : tie.Need-mul-wrapping-add-u32-3
 mul-wrapping-add-u32-3 c = search needs
@@ -52,6 +58,7 @@ operation-spec =
     tie.close
     (tie.spec
     place-requires
+    cast-k
     mix-requires
     wrapping-add-u32-requires
     mul-wrapping-add-u32
@@ -59,6 +66,7 @@ operation-spec =
     wrapping-add-u32-requires-2
     mul-wrapping-add-u32-2
     add-wrapping-add-u32
+    cast-wrapping-add-u32
     mul-wrapping-add-u32-3
     element-copy-out-wrapping-add-u32-2
     wrapping-add-u32-requires-3
