@@ -1,4 +1,4 @@
--- k blocks reach the size exactly where k is past the quotient.
+-- A product up to the quotient is at most the number; past it, more.
 use Prim.Native.Nat.{ℕ, _+_, _*_, _/_, _≤_, _<_}
 use native.Mathlib.Nat.{mul-le-mul-right, div-add-mod', mod-lt}
 use native.Mathlib.Omega.{arith}
