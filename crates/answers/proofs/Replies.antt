@@ -1,11 +1,11 @@
 -- An answer is written whole, or, where the framing routine refuses, not at all; the longest answer buffer holds every one.
-use Prim.Native.Nat.{ℕ, _+_, _/_, _%_, _≤_, _<_}
-use mathlib.Core.Path.{_≡_, refl, ap, sym, subst}
-use mathlib.Core.List.{List, _∷_, _++_}
+use Prim.Native.Nat.{ℕ, _+_, _≤_, _<_}
+use mathlib.Core.Path.{_≡_, refl, ap, sym}
+use mathlib.Core.List.{List, _++_}
 use native.Mathlib.Omega.{arith}
 use lib.ListN.{length, length-append}
 use Rattle.lists.specs.Lay.{lay}
-use Rattle.fields.specs.Words.{bytesOf}
+use Rattle.fields.specs.Header.{headerOf}
 use Rattle.framing.specs.Frame.{longest, framed, wrote, Framing, framing, Frames}
 use Rattle.framing.specs.declared.Framed.{Framed}
 use Rattle.framing.specs.declared.Framed.the-variants.{Written, Refused}
@@ -14,10 +14,6 @@ use Rattle.framing.proofs.Refusals.{framing-written, framing-long}
 use Rattle.answers.specs.declared.Body.{Body}
 use Rattle.answers.specs.Answer.{statusBytes, bodyBytes, answerWith, answerBytes}
 use Rattle.answers.specs.Reply.{longestAnswer, sentOf, Replies}
-
--- the same bytes, said otherwise
-pub framed-as : (bytes whole buffer after : List ℕ) (f : Framed) → bytes ≡ whole → Frames (framing bytes buffer) f after → Frames (framing whole buffer) f after
-framed-as bytes whole buffer after f e h = subst (λ (p : List ℕ). Frames (framing p buffer) f after) e h
 
 module _ (bytes buffer after : List ℕ) (f : Framed) (h : Frames (framing bytes buffer) f after) where
   pub replied : (n : ℕ) → f ≡ Written n → Replies bytes buffer n after
@@ -29,7 +25,7 @@ module _ (bytes buffer after : List ℕ) (f : Framed) (h : Frames (framing bytes
 -- the header before the body and the status bytes makes the answer
 pub answer-whole :
     (c v n : ℕ) (head body status : List ℕ) → length status ≡ 2 → n ≡ length body + 2
-    → head ≡ 1 ∷ c ∷ n % 256 ∷ n / 256 % 256 ∷ bytesOf v → head ++ (body ++ status) ≡ answerWith c v (body ++ status)
+    → head ≡ headerOf 1 c n v → head ++ (body ++ status) ≡ answerWith c v (body ++ status)
 answer-whole c v n head body status two e h =
     let k : n ≡ length (body ++ status) = rw (length-append body) (omega arith) in
     rw (h, k) refl

@@ -2,15 +2,16 @@
 use framing::Framed;
 use framing::LONGEST;
 ghost use mathlib.Core.Path.{_≡_};
-ghost use mathlib.Core.List.{_++_, _∷_};
-ghost use Prim.Native.Nat.{_/_, _%_};
-ghost use Rattle.fields.specs.Words.{bytesOf};
+ghost use mathlib.Core.List.{_++_};
 ghost use Rattle.answers.specs.Answer.{statusOf, statusBytes, plain, answerWith, answerBytes};
 ghost use Rattle.answers.specs.Reply.{Replies};
 
 // The least answer buffer: no answer is longer than 26 bytes, 8 of header, 16 of digest and 2 of status, each escaped to at most two,
 // between two C0.
 pub const LONGEST_ANSWER: usize = 54;
+
+// The direction of an answer.
+const DIRECTION: u8 = 1;
 
 // How many status bytes end an answer.
 const STATUS_LENGTH: usize = 2;
@@ -50,15 +51,6 @@ fn status_bytes(error: u8) -> StatusBytes
     [status_of(error), error]
 }
 
-// The header of an answer whose body is so long.
-fn header(command: u8, value: u32, size: u32) -> [u8; 8]
-    ensures { λ r. ⌜ r ≡ 1 ∷ command ∷ size % 256 ∷ size / 256 % 256 ∷ bytesOf value ⌝ }
-{
-    let v = fields::bytes_of(value);
-    let s = fields::bytes_of(size);
-    [1, command, s[0], s[1], v[0], v[1], v[2], v[3]]
-}
-
 // Writes an answer with a body of any length and the status bytes behind it; how many bytes from the front of the buffer are to be sent.
 fn send(command: u8, value: u32, body: &[u8], status: &StatusBytes, answer: &mut [u8]) -> usize
     ensures { λ r. ⌜ Replies (answerWith command value (now (body .entry) ++ now (status .entry)))
@@ -68,7 +60,7 @@ fn send(command: u8, value: u32, body: &[u8], status: &StatusBytes, answer: &mut
         return 0;
     }
     let size = body.len() + STATUS_LENGTH;
-    let head = header(command, value, size as u32);
+    let head = fields::header(DIRECTION, command, size as u32, value);
     let Framed::Written(n) = framing::frame_parts(&head, body, status, answer) else {
         return 0;
     };

@@ -1,13 +1,13 @@
 -- n*b from S up to less than S + b has one n: S/b rounded up, which is the theorem of specs/Count, and as the code has it.
-use Prim.Native.Nat.{ℕ, _+_, _-_, _*_, _/_, _%_, _≤_, _<_}
-use mathlib.Core.Path.{_≡_, refl}
+use Prim.Native.Nat.{ℕ, zero, suc, _+_, _-_, _*_, _/_, _%_, _≤_, _<_}
+use mathlib.Core.Path.{_≡_, refl, sym, _∙_}
 use mathlib.Core.Bool.{Bool, true, false, cond, _&&_}
 use native.Mathlib.Nat.{mul-le-mul-right, mul-zero, zero-mul, div-add-mod', mod-lt}
 use native.Mathlib.Omega.{arith}
 use borrow.Author.Tests.{leb-true, leb-false, le-leb, lt-leb, lt-ltb, le-ltb, eq-eqb, ne-eqb, eqb-true, eqb-false}
 use lib.Dec.{leb, ltb, eqb}
 use Rattle.begins.specs.Begin.{counted}
-use Rattle.begins.specs.Count.{dividedUp, CountIsDividedUp, NoneOfBlock0}
+use Rattle.begins.specs.Count.{dividedUp, countOf, CountIsDividedUp, NoneOfBlock0}
 use Rattle.begins.proofs.Sectors.{next-block}
 
 -- m*b reaches S, and is less than b past it
@@ -19,7 +19,7 @@ by-test : (s b : ℕ) (t : Bool) {m n : ℕ} → (t ≡ true → Fills s b m) �
 by-test s b true f g = f refl
 by-test s b false f g = g refl
 
-up : (s b : ℕ) → 1 ≤ b → Fills s b (dividedUp s b)
+pub up : (s b : ℕ) → 1 ≤ b → Fills s b (dividedUp s b)
 unfolding dividedUp
 up s b h =
     let d = div-add-mod' s b in
@@ -59,6 +59,28 @@ alone s b m n f = go (leb n m) (leb m n) refl refl
         let l = mul-le-mul-right {m = m + 1} {n = n} b (omega arith) in
         let e = next-block m b in
         rw (le-leb s (n * b) (omega arith), le-ltb (n * b) (s + b) (omega arith), ne-eqb n m (λ e. omega arith))
+
+-- so two that do are the same
+pub same : (s b m n : ℕ) → Fills s b m → Fills s b n → n ≡ m
+same s b m n f g =
+    eqb-true n m (sym (alone s b m n f) ∙ rw (le-leb s (n * b) (g .enough), lt-ltb (n * b) (s + b) (g .tight)) refl)
+
+-- the count of blocks of a size
+pub count-0 : (s b : ℕ) → b ≡ 0 → countOf s b ≡ 0
+unfolding countOf
+count-0 s b e = rw (eq-eqb b 0 e) refl
+
+pub count-is : (s b : ℕ) → 1 ≤ b → countOf s b ≡ dividedUp s b
+unfolding countOf
+count-is s b h = rw (ne-eqb b 0 (λ e. omega arith)) refl
+
+pub count-fills : (s b : ℕ) → 1 ≤ b → Fills s b (countOf s b)
+count-fills s b h = rw (count-is s b h) (up s b h)
+
+-- no bytes take no blocks
+pub count-empty : (b : ℕ) → countOf 0 b ≡ 0
+count-empty zero = count-0 0 0 refl
+count-empty (suc b) = sym (same 0 (suc b) _ 0 (count-fills 0 (suc b) (omega arith)) (none (suc b) (omega arith)))
 
 -- blocks of no bytes fill no size
 no-block : (s n : ℕ) → (leb s (n * 0) && ltb (n * 0) (s + 0)) ≡ false

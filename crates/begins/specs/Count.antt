@@ -10,6 +10,10 @@ use Rattle.begins.specs.declared.Begin.{Begin}
 unfoldable pub dividedUp : ℕ → ℕ → ℕ
 dividedUp s b = cond (eqb (s % b) 0) (s / b) (s / b + 1)
 
+-- how many blocks of b bytes hold s bytes; none where b is 0
+unfoldable pub countOf : ℕ → ℕ → ℕ
+countOf s b = cond (eqb b 0) 0 (dividedUp s b)
+
 -- for every BEGIN with b from 1, the count is good exactly where it is S/b rounded up
 abbrev pub CountIsDividedUp : Type 0
 CountIsDividedUp = (g : Begin) → 1 ≤ g .block → counted g ≡ eqb (g .count) (dividedUp (g .size) (g .block))

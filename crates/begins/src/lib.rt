@@ -3,6 +3,7 @@ ghost use mathlib.Core.Path.{_≡_};
 ghost use Prim.Native.Nat.{_+_};
 ghost use lib.Dec.{leb};
 ghost use Rattle.begins.specs.Begin.{beginOf, roundUp, counted, flashRule, memoryEnd, memoryRule, reached};
+ghost use Rattle.begins.specs.Count.{countOf};
 use fields::FIRST_WORD;
 use fields::FOURTH_WORD;
 use fields::SECOND_WORD;
@@ -47,20 +48,32 @@ pub fn round_up(x: u32) -> u64
     x as u64 + ((SECTOR - x % SECTOR) % SECTOR) as u64
 }
 
-// Whether the block count is the size over the block size, rounded up: with S from 1 this is (S - 1)/b + 1. No product, and a sum of
-// at most S.
+// The count of no bytes.
+const NO_BLOCKS: u32 = 0;
+
+// How many blocks hold so many bytes: S/b rounded up, and none where b is 0. With S from 1 this is (S - 1)/b + 1: no product, and a sum
+// of at most S.
+pub fn count_of(size: u32, block: u32) -> u32
+    ensures { λ r. ⌜ r ≡ countOf size block ⌝ }
+{
+    if block == 0 {
+        return NO_BLOCKS;
+    }
+    if size == 0 {
+        return NO_BLOCKS;
+    }
+    (size - 1) / block + 1
+}
+
+// Whether the block count is the size over the block size, rounded up.
 fn count_good(begin: Begin) -> bool
     ensures { λ r. ⌜ r ≡ counted begin ⌝ }
 {
-    let size = begin.size;
     let block = begin.block;
     if block == 0 {
         return false;
     }
-    if size == 0 {
-        return begin.count == 0;
-    }
-    begin.count == (size - 1) / block + 1
+    begin.count == count_of(begin.size, block)
 }
 
 // Whether a flash BEGIN's numbers are good.

@@ -11,7 +11,7 @@ use Rattle.lists.specs.Bytes.{allAre}
 use Rattle.fields.specs.Words as words
 use Rattle.fields.specs.Checksum.{xored, checksum}
 use Rattle.fields.proofs.Theorems.{word-back}
-use Rattle.framing.specs.Frame.{framed}
+use Rattle.framing.specs.Frame.{framed, framedAll}
 use Rattle.unframing.specs.Reasons.{whole}
 use Rattle.packets.specs.Packets.{read, header}
 use Rattle.commands.specs.Header.{command, sized, shaped, dataShaped}
@@ -28,7 +28,7 @@ use Rattle.history.specs.Loaded.{Loaded}
 use Rattle.history.proofs.Goodness.{block-whole}
 use Rattle.history.proofs.Sessions.{began, accepts}
 use Rattle.history.proofs.Flash.{loadedUpTo, nothing-loaded, Sizes, block-loaded, loaded}
-use Rattle.cases.specs.Feeding.{Lending, begun, fed, framedAll}
+use Rattle.cases.specs.Feeding.{Lending, begun, fed}
 use Rattle.cases.specs.Packets.{beginPacket, Block, dataPacket}
 use Rattle.cases.specs.Cases.{fiveBlocks}
 use Rattle.cases.proofs.Fed.{fedAll, fed-all, freshCore, Idle, idle-fresh, idle-after}

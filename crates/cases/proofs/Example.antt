@@ -9,7 +9,7 @@ use Rattle.lists.specs.Bytes.{sameBytes, allAre}
 use Rattle.lists.specs.Checks.{first}
 use Rattle.lists.proofs.Laws.{lay-lay, length-lay}
 use Rattle.fields.specs.Words as words
-use Rattle.framing.specs.Frame.{longest}
+use Rattle.framing.specs.Frame.{longest, framedAll}
 use Rattle.answers.specs.Reply.{longestAnswer}
 use Rattle.unframing.specs.Reasons.{letters, whole}
 use Rattle.packets.specs.Packets.{header}
@@ -27,7 +27,7 @@ use Rattle.report.specs.Numbers.{digits, decimal}
 use Rattle.columns.specs.Columns.{heading}
 use Rattle.report.specs.Lines.{longestLine, lineOf}
 use Rattle.report.specs.Listing.{numberAfter}
-use Rattle.cases.specs.Feeding.{Lending, begun, framedAll}
+use Rattle.cases.specs.Feeding.{Lending, begun}
 use Rattle.cases.specs.Packets.{syncPacket, endPacket}
 use Rattle.cases.specs.Listing.{opened, listed, listedRuns}
 use Rattle.cases.specs.Example.{line1, line2, line3, Prints, Example}

@@ -13,7 +13,7 @@ use Rattle.lists.specs.Checks.{first}
 use Rattle.lists.proofs.Laws.{length-lay}
 use Rattle.lists.proofs.Tests.{first-passed, first-append}
 use Rattle.pins.specs.Pins.{attachGood}
-use Rattle.framing.specs.Frame.{END, longest, escaped, framed}
+use Rattle.framing.specs.Frame.{END, longest, escaped, framed, framedAll}
 use Rattle.unframing.specs.Reasons.{whole}
 use Rattle.packets.specs.Packets.{header}
 use Rattle.unframing.specs.Line.{Step as ByteStep, lineState, silent, closed, stepOf}
@@ -36,7 +36,7 @@ use Rattle.loader_state.specs.declared.Loader.{Loader}
 use Rattle.history.proofs.Lengths.{Sound, keeps, sound-after}
 use Rattle.claims.specs.Calls.{Called, stepped, EachCall}
 use Rattle.claims.proofs.Line.{follows}
-use Rattle.cases.specs.Feeding.{Lending, begun, called, fed, framedAll}
+use Rattle.cases.specs.Feeding.{Lending, begun, called, fed}
 
 pub fed-append : (s : Step) (xs ys : List ℕ) → fed s (xs ++ ys) ≡ fed (fed s xs) ys
 unfolding fed

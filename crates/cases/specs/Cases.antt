@@ -8,7 +8,7 @@ use Rattle.lists.specs.Checks.{first}
 use Rattle.fields.specs.Checksum.{checksum}
 use Rattle.fields.specs.Merge.{merged}
 use Rattle.pins.specs.Pins.{word, packingOf}
-use Rattle.framing.specs.Frame.{framed}
+use Rattle.framing.specs.Frame.{framed, framedAll}
 use Rattle.begins.specs.Begin.{flashRule}
 use Rattle.link_frames.specs.Frames.{baudRate, dataFrame}
 use Rattle.link_state.specs.Clock.{elapsed}
@@ -18,7 +18,7 @@ use Rattle.link_refusals.specs.Refusals.{shortestBuffer, sendChecks}
 use Rattle.link.specs.Answers.{sentBy}
 use Rattle.link.specs.Step.{byteStep, sendStep}
 use Rattle.link_state.specs.declared.Link.{Link}
-use Rattle.cases.specs.Feeding.{Lending, begun, fed, framedAll, sends}
+use Rattle.cases.specs.Feeding.{Lending, begun, fed, sends}
 use Rattle.cases.specs.LinkCalls.{receives, Completes, AliveAt, LostAt}
 use Rattle.cases.specs.Packets.{syncPacket, beginPacket, Block, dataPacket}
 

@@ -38,11 +38,6 @@ unfoldable pub fed : Step → List ℕ → Step
 fed s [] = s
 fed s (b ∷ bs) = fed (called s b) bs
 
--- packets framed, one after the other
-unfoldable pub framedAll : List (List ℕ) → List ℕ
-framedAll [] = []
-framedAll (p ∷ ps) = framed p ++ framedAll ps
-
 -- how many bytes of answer a call tells
 unfoldable pub sentCount : Told → ℕ
 sentCount (refused n) = 0

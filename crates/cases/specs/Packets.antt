@@ -1,8 +1,9 @@
--- The packets that the cases speak of.
+-- The packets that the cases speak of, byte by byte: written apart from those of the sending end.
 use mathlib.Core.Path.{_≡_}
 use mathlib.Core.List.{List, _∷_, _++_}
-use Prim.Native.Nat.{ℕ, _<_}
-use lib.ListN.{length, getD, replicate}
+use Prim.Native.Nat.{ℕ}
+use lib.ListN.{length, replicate}
+use Rattle.lists.specs.Bytes.{IsBytes}
 use Rattle.fields.specs.Words.{bytesOf}
 use Rattle.fields.specs.Checksum.{checksum}
 
@@ -25,7 +26,7 @@ endPacket word = 0x00 ∷ 0x04 ∷ 0x04 ∷ 0x00 ∷ 0x00 ∷ 0x00 ∷ 0x00 ∷ 
 -- the data of a block: 1,024 bytes
 pub record Block (bytes : List ℕ) : Type 0 where
   pub full : length bytes ≡ 1024
-  pub each : (i : ℕ) → getD bytes i 0 < 256
+  pub each : IsBytes bytes
 
 -- FLASH_DATA: "data size, sequence, 0, 0, data", for 1,024 bytes
 abbrev pub dataPacket : ℕ → List ℕ → List ℕ

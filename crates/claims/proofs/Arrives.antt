@@ -20,8 +20,8 @@ use Rattle.packets.specs.Run.{bufferAfter}
 use Rattle.packets.specs.Theorems.{BetweenPackets}
 use Rattle.unframing.specs.declared.Line.{Line}
 use Rattle.unframing.specs.declared.Phase.the-variants.{Outside, Inside}
-use Rattle.packets.proofs.Unescape.{means-escaped, means-full, closed-whole}
-use Rattle.packets.proofs.Cut.{clean-escaped, stretches-framed, todo, todo-first, todo-again, todo-open}
+use Rattle.packets.proofs.Unescape.{means-escaped, means-full, closedWhole, closed-whole}
+use Rattle.packets.proofs.Cut.{clean-nil, clean-escaped, todo, todo-first, todo-again, todo-closes, todo-open}
 use Rattle.packets.proofs.Invariant.{Pend, outside, Fed, still, closes, pend-opened, todo-nil, fed}
 use Rattle.packets.proofs.Runs.{silent-leads, closed-ends}
 use Rattle.packets.proofs.Theorems.{round-trip, leaves}
@@ -224,13 +224,12 @@ taken-close m (c ∷ cs) e =
     let b : toldBy (next m c) cs ≡ replicate (length cs) taken = cc in
     rw a (taken-close (next m c) cs b)
 
--- a framed packet is to be closed as that packet, and without its last C0 nothing is
+-- a framed packet is to be closed as that packet, whatever follows, and without its last C0 nothing is
 module _ (p : List ℕ) (filled : 1 ≤ length p) (fits : length p ≤ longest) where
-  todo-framed : todo (some []) (escaped p ++ END ∷ []) ≡ record { stored = length p; contents = whole p } ∷ []
-  unfolding todo framed
-  todo-framed =
-      sym (todo-first (escaped p ++ END ∷ []))
-      ∙ rw (stretches-framed p (means-full (means-escaped p) filled), closed-whole (means-escaped p) fits)
+  pub todo-framed : (bs : List ℕ) → todo (some []) (escaped p ++ END ∷ bs) ≡ closedWhole p ∷ todo (some []) bs
+  unfolding todo
+  todo-framed bs =
+      todo-closes (escaped p) bs (clean-escaped p) (means-full (means-escaped p) filled) ∙ rw (closed-whole (means-escaped p) fits)
 
   todo-unended : todo (some []) (escaped p) ≡ []
   unfolding todo
@@ -265,7 +264,7 @@ module _ (p : List ℕ) (filled : 1 ≤ length p) (fits : length p ≤ longest) 
     unfolding framed
     closing =
         closes-one (after m cs) c p (hushed .stretch) (hushed .ready) last-passes
-        (sym (hushed .rest (c .byte ∷ [])) ∙ ap (todo (begun .stretch)) whole-line ∙ begun .opens (escaped p ++ END ∷ []) ∙ todo-framed)
+        (sym (hushed .rest (c .byte ∷ [])) ∙ ap (todo (begun .stretch)) whole-line ∙ begun .opens (escaped p ++ END ∷ []) ∙ todo-framed [] ∙ rw (todo-open [] clean-nil))
         (fed (after m cs .loader .line) (c .byte) (after m cs .buffer) (long-enough (after m cs) c last-passes .packet) (hushed .ready .pending))
 
     -- what the packet buffer then holds

@@ -13,6 +13,9 @@ use Rattle.loader.proofs.Calls.{one-byte}
 use Rattle.claims.specs.Calls.{Machine, Call, stepped, next, passes, lineBytes, closingCalls, Called, EachCall}
 use Rattle.claims.specs.CallHistory.{coreAt}
 use Rattle.claims.specs.RunCalls.{RunCall, ran, nextRun, passesRun, takenBytes, lineTaken, closingRuns, TakesUpTo, RunCalled, EachRunCall}
+use Rattle.claims.specs.Feeding.{oneRun}
+use Rattle.claims.specs.RunsAreBytes.{runCalls}
+use Rattle.claims.specs.Arrives.{after}
 use Rattle.claims.proofs.Passing.{closings, Ready}
 use Rattle.claims.proofs.RunLine.{lineFor, law-for, runs-follow}
 
@@ -72,6 +75,11 @@ pub single-closings : (cs : List Call) (m : Machine) → closingRuns m (map sing
 unfolding closingRuns closingCalls
 single-closings [] m = refl
 single-closings (c ∷ cs) m = rw (single-step m c, single-next m c, single-closings cs (next m c))
+
+pub single-left : (cs : List Call) (m : Machine) → runCalls m (map single cs) .machine ≡ after m cs
+unfolding runCalls oneRun after
+single-left [] m = refl
+single-left (c ∷ cs) m = rw (single-next m c) (single-left cs (next m c))
 
 pub single-line : (cs : List Call) (m : Machine) (line : List ℕ) → EachRunCall line m (map single cs) → lineTaken m (map single cs) ≡ lineBytes m cs
 unfolding lineTaken lineBytes EachRunCall

@@ -40,6 +40,11 @@ unfoldable pub closings : Core → List Closed → List ClosingCall
 closings c [] = []
 closings c (d ∷ ds) = closingAs (d .stored) (handle c (packetOf d)) ∷ closings (handle c (packetOf d) .core) ds
 
+-- and what they leave
+unfoldable pub coreLeft : Core → List Closed → Core
+coreLeft c [] = c
+coreLeft c (d ∷ ds) = coreLeft (handle c (packetOf d) .core) ds
+
 -- a machine whose line state and packet buffer hold the open stretch o, and whose record is sound
 pub record Ready (m : Machine) (o : Option (List ℕ)) : Type 0 where
   pub pending : Pend (m .buffer) (m .loader .line) o

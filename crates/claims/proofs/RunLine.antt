@@ -28,8 +28,10 @@ use Rattle.history.proofs.Lengths.{keeps, sound-after}
 use Rattle.claims.specs.Calls.{Machine, closingCall, Sent}
 use Rattle.claims.specs.CallHistory.{coreAt, closingAs}
 use Rattle.claims.specs.RunCalls.{RunCall, ran, nextRun, passesRun, takenBytes, lineTaken, closingRuns, TakesUpTo, RunCalled, EachRunCall}
+use Rattle.claims.specs.Feeding.{oneRun}
+use Rattle.claims.specs.RunsAreBytes.{runCalls}
 use Rattle.claims.proofs.Values.{valued}
-use Rattle.claims.proofs.Passing.{packetOf, closings, Ready, told-never, taken-never, closes-packet-one, answer-buffer-length, sent-by, run-long-enough, run-stops, run-passes}
+use Rattle.claims.proofs.Passing.{packetOf, closings, coreLeft, Ready, told-never, taken-never, closes-packet-one, answer-buffer-length, sent-by, run-long-enough, run-stops, run-passes}
 
 -- the line so far, which leaves the stretch o open: bytes that follow it close what is to be closed
 abbrev pub Law : List ℕ → Option (List ℕ) → Type 0
@@ -38,6 +40,7 @@ Law line o = (bs : List ℕ) → packets (line ++ bs) ≡ packets line ++ map pa
 -- what is claimed of the calls cs from the machine m on, after that line
 pub record FollowsRuns (m : Machine) (o : Option (List ℕ)) (line : List ℕ) (cs : List RunCall) : Type 0 where
   pub closes : closingRuns m cs ≡ closings (coreAt m) (todo o (lineTaken m cs))
+  pub left : coreAt (runCalls m cs .machine) ≡ coreLeft (coreAt m) (todo o (lineTaken m cs))
   pub each : EachRunCall line m cs
 
 -- ---- the line
@@ -121,12 +124,13 @@ module _ (m : Machine) (c : RunCall) (cs : List RunCall) (o : Option (List ℕ))
     (rest : (n : Machine) (o′ : Option (List ℕ)) (line′ : List ℕ) → Ready n o′ → Law line′ o′ → FollowsRuns n o′ line′ cs) where
   -- a refused call
   stopped : passesRun m c ≡ false → FollowsRuns m o line (c ∷ cs)
-  unfolding closingRuns lineTaken takenBytes EachRunCall nextRun closingCall refusingRun refusing Sent
+  unfolding closingRuns lineTaken takenBytes EachRunCall runCalls oneRun nextRun closingCall refusingRun refusing Sent
   stopped h =
       let e = run-stops m c h in
       let f = rest m o line r w in
       record {
         closes = rw e (f .closes);
+        left = rw e (f .left);
         each = rw (e, append-nil line)
             (called-as line m c _ e (λ t. absurd-test (sym h ∙ t)) (λ t. absurd-test (sym h ∙ t)) (λ _. refl) refl refl refl refl refl, f .each);
       }
@@ -153,12 +157,13 @@ module _ (m : Machine) (c : RunCall) (cs : List RunCall) (o : Option (List ℕ))
       }
 
   fed-follows : passesRun m c ≡ true → RunsTo (m .buffer) o (c .run) (runOf (m .loader .line) (c .run) (m .buffer)) → FollowsRuns m o line (c ∷ cs)
-  unfolding closingRuns lineTaken takenBytes EachRunCall nextRun closingCall taking afterByte afterPacket Sent closings
+  unfolding closingRuns lineTaken takenBytes EachRunCall runCalls oneRun nextRun closingCall taking afterByte afterPacket Sent closings coreLeft
   fed-follows h (goes-whole l after o′ q k p v s) =
       let e = run-passes m c r h _ q in
       let f = rest (opened l after) o′ (line ++ c .run) (record { pending = p; sound = r .sound }) (law-silent line o w (c .run) o′ (todo-nil p) v) in
       record {
         closes = rw (e, take-length (c .run), v (lineTaken (opened l after) cs)) (f .closes);
+        left = rw (e, take-length (c .run), v (lineTaken (opened l after) cs)) (f .left);
         each = rw (e, take-length (c .run)) (
           called-as line m c _ e (λ _. taken-never)
               (λ _. record { within = omega arith; no-further = λ j b. silent-count line o w (take j (c .run)) (s j b); no-less = inl refl })
@@ -176,6 +181,7 @@ module _ (m : Machine) (c : RunCall) (cs : List RunCall) (o : Option (List ℕ))
         closes = rw (e, closes-packet-one)
             (ap (λ hs. closingAs (d .stored) (handle (coreAt m) (packetOf d)) ∷ hs) (f .closes)
             ∙ ap (closings (coreAt m)) (sym (v (lineTaken (closed d after) cs))));
+        left = rw e (f .left ∙ ap (coreLeft (coreAt m)) (sym (v (lineTaken (closed d after) cs))));
         each = rw e (
           called-as line m c _ e (λ _. told-never _ _)
               (λ _. record {
@@ -197,6 +203,6 @@ module _ (m : Machine) (c : RunCall) (cs : List RunCall) (o : Option (List ℕ))
 -- ---- every call
 
 pub runs-follow : (cs : List RunCall) (m : Machine) (o : Option (List ℕ)) (line : List ℕ) → Ready m o → Law line o → FollowsRuns m o line cs
-unfolding closingRuns lineTaken EachRunCall closings
-runs-follow [] m o line r w = record { closes = rw (todo-nil (r .pending)); each = tt }
+unfolding closingRuns lineTaken EachRunCall closings runCalls coreLeft
+runs-follow [] m o line r w = record { closes = rw (todo-nil (r .pending)); left = rw (todo-nil (r .pending)); each = tt }
 runs-follow (c ∷ cs) m o line r w = call-follows m c cs o line r w (runs-follow cs) (passesRun m c) refl

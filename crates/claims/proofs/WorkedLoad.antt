@@ -31,7 +31,7 @@ unfolding next
 called-same m c d = record { buffer = d .packet-length; flash = d .flash-length; words = d .words-length }
 
 -- where every call passes, the line is all their bytes
-all-line : (m : Machine) (cs : List Call) → EachCall m cs → AllPass m cs → lineBytes m cs ≡ bytes cs
+pub all-line : (m : Machine) (cs : List Call) → EachCall m cs → AllPass m cs → lineBytes m cs ≡ bytes cs
 unfolding EachCall lineBytes bytes
 all-line m [] e a = refl
 all-line m (c ∷ cs) e a = rw (a .0) (ap (λ bs. c .byte ∷ bs) (all-line (next m c) cs (e .1) (same-all (called-same m c (e .0)) cs (a .1))))
@@ -42,12 +42,12 @@ unfolding EachCall after next
 flash-length-after m [] c e = e .0 .flash-length
 flash-length-after m (d ∷ cs) c e = flash-length-after (next m d) cs c (e .1) ∙ e .0 .flash-length
 
-long-pass : (buffer flash words : List ℕ) (cs : List Call) → longest ≤ length buffer → length flash ≡ sector → wordCount (length words) ≡ true
+pub long-pass : (buffer flash words : List ℕ) (cs : List Call) → longest ≤ length buffer → flashLength (length flash) ≡ true → wordCount (length words) ≡ true
     → LongAnswers cs → AllPass (start buffer flash words) cs
-unfolding LongAnswers passes start bufferChecks flashLength
+unfolding LongAnswers passes start bufferChecks
 long-pass buffer flash words [] b f w a = tt
 long-pass buffer flash words (c ∷ cs) b f w a = (
-  eq-eqb _ 0 (passed-first _ (le-leb _ _ b, (le-leb _ _ (a .0), (rw f refl, (w, tt))))),
+  eq-eqb _ 0 (passed-first _ (le-leb _ _ b, (le-leb _ _ (a .0), (f, (w, tt))))),
   long-pass buffer flash words cs b f w (a .1),
 )
 
@@ -96,7 +96,8 @@ module _ (buffer flash words : List ℕ) (cs : List Call) (c : Call) (b : longes
   front = demand3 buffer flash words cs
 
   all-pass : AllPass m (cs ++ c ∷ [])
-  all-pass = long-pass buffer flash words (cs ++ c ∷ []) b f w long
+  unfolding flashLength
+  all-pass = long-pass buffer flash words (cs ++ c ∷ []) b (rw f) w long
 
   grammar : Grammatical (record { flash = length flash; words = length words }) ps (closingCalls m cs ++ closingCall told flashAfter)
   grammar = rw (all-line m (cs ++ c ∷ []) (whole .each-call) all-pass ∙ line, worked-packets, closing-front m cs c) at (whole .grammatical)

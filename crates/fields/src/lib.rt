@@ -3,6 +3,7 @@ ghost use mathlib.Core.Path.{_≡_};
 ghost use Prim.Native.Nat.{_<_, _%_};
 ghost use lib.ListN.{getD, drop};
 ghost use Rattle.fields.specs.Words.{word, half, bytesOf};
+ghost use Rattle.fields.specs.Header.{headerOf};
 ghost use Rattle.fields.specs.Checksum.{xored, checksum};
 ghost use Rattle.fields.specs.Merge.{merged};
 
@@ -81,6 +82,21 @@ pub fn bytes_of(x: u32) -> WordBytes
         low_byte(x >> 16),
         low_byte(x >> 24),
     ]
+}
+
+// Headers
+
+// The bytes of a header.
+pub type HeaderBytes = [u8; 8];
+
+// The header before a body of this size: direction, command, the size's two low bytes, and a word, a request's checksum or an answer's
+// value.
+pub fn header(direction: u8, command: u8, size: u32, word: u32) -> HeaderBytes
+    ensures { λ r. ⌜ r ≡ headerOf direction command size word ⌝ }
+{
+    let s = bytes_of(size);
+    let w = bytes_of(word);
+    [direction, command, s[0], s[1], w[0], w[1], w[2], w[3]]
 }
 
 // Checksums

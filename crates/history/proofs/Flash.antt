@@ -1,16 +1,14 @@
 -- Flash under a load: block after block, it is the flash at the BEGIN with the data so far laid over it, and 0xFF up to the sector's end.
 use mathlib.Core.Path.{_≡_, refl, sym, ap, _∙_}
 use mathlib.Core.List.{List, [], _++_, append-assoc}
-use mathlib.Core.Bool.{Bool, true, false}
 use Prim.Native.Nat.{ℕ, _+_, _-_, _*_, _≤_, _<_, min}
 use native.Mathlib.Omega.{arith}
 use native.Mathlib.Nat.{suc-mul, mul-le-mul-right, le-of-lt}
-use borrow.Author.Tests.{leb-true, leb-false}
-use lib.Dec.{leb}
 use lib.ListN.{length, take, drop, replicate, length-append, length-take, length-replicate}
-use lib.Seq.{take-at, drop-at, drop-drop, take-append-add, take-all, take-length}
+use lib.Seq.{take-at, drop-at, drop-drop, take-append-add, take-all}
 use Rattle.lists.specs.Lay.{lay}
 use Rattle.lists.proofs.Laws.{lay-nil}
+use Rattle.lists.proofs.Cuts.{cut-same}
 use Rattle.lists.proofs.Laid.{take-lay, drop-lay, rest-lay, lay-over}
 use Rattle.begins.specs.Begin.{roundUp, reached}
 use Rattle.begins.specs.declared.Begin.{Begin}
@@ -51,19 +49,6 @@ pub record Sizes (g : Begin) (k : ℕ) (img f : List ℕ) : Type 0 where
   pub tight : g .count * g .block < g .size + g .block
   pub within : g .offset + roundUp (g .size) ≤ length f
   pub image : length img ≡ k * g .block
-
-cut-same : (n : ℕ) (x : List ℕ) → take (min (length x) n) x ≡ take n x
-cut-same n x = go (leb (length x) n) refl
-  where
-    go : (b : Bool) → leb (length x) n ≡ b → take (min (length x) n) x ≡ take n x
-    go true e =
-        let h : length x ≤ n = leb-true _ _ e in
-        let q : min (length x) n ≡ length x = omega arith in
-        rw q (take-length x ∙ sym (take-all n x h))
-    go false e =
-        let h : n < length x = leb-false _ _ e in
-        let q : min (length x) n ≡ n = omega arith in
-        rw q
 
 min-left : (a s : ℕ) → a < s → min a s ≡ a
 min-left a s h = omega arith

@@ -29,11 +29,15 @@ pub fn new() -> Loader
     }
 }
 
-// Refusal 3: flash is a multiple of a sector, up to 4 MiB. A sector's length is a power of 2, so a multiple has none of the bits below.
-fn flash_length_good(n: usize) -> bool
+// The longest flash: 4 MiB.
+pub const LONGEST_FLASH: usize = 4194304;
+
+// Refusal 3, the sending end's too: flash is a multiple of a sector, up to 4 MiB. A sector's length is a power of 2, so a multiple has
+// none of the bits below.
+pub fn flash_length_good(n: usize) -> bool
     ensures { λ r. ⌜ r ≡ flashLength n ⌝ }
 {
-    (1 <= n) & (((n & (SECTOR as usize - 1)) == 0) & (n <= 4194304))
+    (1 <= n) & (((n & (SECTOR as usize - 1)) == 0) & (n <= LONGEST_FLASH))
 }
 
 // Refusal 4: 1 to 16,384 words.

@@ -23,6 +23,12 @@ ghost use Rattle.claims.specs.HoweverCut.{HoweverCut};
 ghost use Rattle.claims.specs.Arrives.{PacketArrives, FrameArrives};
 ghost use Rattle.claims.specs.RunArrives.{RunArrives};
 ghost use Rattle.claims.specs.WorkedLoad.{WorkedLoad};
+ghost use Rattle.sender.specs.Theorems.{FrameFits, NumbersAreWords, EmptyImage};
+ghost use Rattle.sender_claims.specs.Reads.{SenderWrites, SenderIsRead};
+ghost use Rattle.sender_claims.specs.Judged.{JudgedAsLoader};
+ghost use Rattle.sender_claims.specs.Succeeds.{EveryPacketSucceeds};
+ghost use Rattle.sender_claims.specs.Stands.{ImageStands};
+ghost use Rattle.sender_claims.specs.Worked.{WorkedSend};
 ghost use Rattle.link_claims.specs.Sound.{NeverRefused, SoundStays};
 ghost use Rattle.link_claims.specs.Refusals.{LinkRefusedChangesNothing, SoundAfterChecks};
 ghost use Rattle.link_claims.specs.Errors.{ErrorsDetected};
@@ -271,6 +277,57 @@ pub fn worked_fits()
 // Fed to a fresh loader, those bytes end with the success of FLASH_END, and flash holds the block's byte, with 0xFF behind it.
 pub fn worked_load()
     ensures { λ r. ⌜ WorkedLoad ⌝ }
+{}
+
+// ---- The sending end: what it writes our loader takes, and the image stands in flash.
+
+// What a call of the sender tells stands at the front of its buffer: the packet with its number, framed. Of a load that is not refused no
+// number is left out.
+pub fn sender_writes()
+    ensures { λ r. ⌜ SenderWrites ⌝ }
+{}
+
+// What it writes is one packet of the line, read, with the contents that `packetOf` says; the line of a load is its packets, one for one.
+pub fn sender_is_read()
+    ensures { λ r. ⌜ SenderIsRead ⌝ }
+{}
+
+// The loader takes the BEGIN of every load that the sender takes for its flash, and gives 0xC5 to that of every other whose numbers are
+// words.
+pub fn judged_as_loader()
+    ensures { λ r. ⌜ JudgedAsLoader ⌝ }
+{}
+
+// A load with a number that no word holds is refused.
+pub fn numbers_are_words()
+    ensures { λ r. ⌜ NumbersAreWords ⌝ }
+{}
+
+// A load that the sender does not refuse for a flash, fed to a fresh loader with that flash by byte calls, by run calls, or cut anywhere:
+// the calls that close a packet are its packets, one for one, each answered with success; and so after every packet.
+pub fn every_packet_succeeds()
+    ensures { λ r. ⌜ EveryPacketSucceeds ⌝ }
+{}
+
+// After its END the image stands at its offset, the rest of the last touched sector is 0xFF, every other byte of flash, the words and
+// the attach word are as before the first byte, and no session is open.
+pub fn image_stands()
+    ensures { λ r. ⌜ ImageStands ⌝ }
+{}
+
+// An empty image gives SYNC, a BEGIN with S = 0 and n = 0, and END.
+pub fn empty_image()
+    ensures { λ r. ⌜ EmptyImage ⌝ }
+{}
+
+// A buffer of 8,242 bytes is never too short for the sender.
+pub fn frame_fits()
+    ensures { λ r. ⌜ FrameFits ⌝ }
+{}
+
+// The packets of two loads, byte by byte; a load that is taken, and one for each refusal.
+pub fn worked_send()
+    ensures { λ r. ⌜ WorkedSend ⌝ }
 {}
 
 // ---- The link.

@@ -5,6 +5,7 @@ use crate::names;
 use fields::word_at;
 use framing::Framed;
 use framing::LONGEST;
+use framing::LONGEST_FRAME;
 use loader::Answer;
 use report::Written;
 use tables::part;
@@ -12,7 +13,7 @@ use tables::put_byte;
 use unframing::Closing;
 
 // The most bytes of a field: the longest packet, framed, and more.
-pub const LONGEST_FIELD: usize = 2 * LONGEST + 2;
+pub const LONGEST_FIELD: usize = LONGEST_FRAME;
 
 pub const FLASH_LENGTH: usize = 65536;
 
@@ -157,6 +158,14 @@ pub fn on_loader(operation: u8, input: &[u8], got: &mut [u8]) -> usize {
         names::LINE => line_of(last, got),
         _ => put_byte(said.errors | said.silent, got),
     }
+}
+
+// A loader that is fed a load of so many packets: that count, how many were closed, and the bits of all the errors.
+pub fn on_load(count: u8, line: &[u8], got: &mut [u8]) -> usize {
+    let said = run(line, got);
+    let three = [count, said.closed, said.errors | said.silent];
+    lists::copy_at(got, 0, &three);
+    3
 }
 
 // 0xFF where the flash is erased from one address up to another.

@@ -3,6 +3,7 @@
 mod calls;
 mod chip;
 mod cuts;
+mod loads;
 mod names;
 mod plain;
 
@@ -12,7 +13,7 @@ use tables::part;
 use tables::past;
 
 // A table has fewer bytes. A row of a long packet has more than 8,240 of them.
-const TABLE: usize = 131072;
+const TABLE: usize = 262144;
 
 // What an operation gives, at the front of a buffer; how many bytes it is.
 fn outcome(operation: u8, input: &[u8], got: &mut [u8]) -> usize {
@@ -24,6 +25,8 @@ fn outcome(operation: u8, input: &[u8], got: &mut [u8]) -> usize {
         }
         names::FLASH => chip::flash_at(input, got),
         names::CUTS => tables::put_word(cuts::agreeing(input), got),
+        names::PACKET => loads::packet(input, got),
+        names::LOAD => loads::load(input, got),
         names::ERASED => tables::put_byte(chip::erased(input, got), got),
         _ => plain::on_bytes(operation, input, got),
     }

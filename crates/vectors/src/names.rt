@@ -4,10 +4,10 @@ use tables::part;
 use tables::past;
 
 // Each name has the number of its place here.
-const NAMES: [u8; 105] = *b"\
+const NAMES: [u8; 117] = *b"\
     checksum\tcommand\tsize\tvalue\taddress\tmerge\tpack\t\
     frame\tunframe\tanswer\tcloses\terrors\tline\t\
-    flash\terased\tcuts\t";
+    flash\terased\tcuts\tpacket\tload\t";
 
 pub const CHECKSUM: u8 = 0;
 
@@ -41,6 +41,10 @@ pub const ERASED: u8 = 14;
 
 pub const CUTS: u8 = 15;
 
+pub const PACKET: u8 = 16;
+
+pub const LOAD: u8 = 17;
+
 // No operation has it.
 pub const UNKNOWN: u8 = 255;
 
@@ -49,7 +53,7 @@ pub fn number_of(name: &[u8]) -> u8 {
     let names = NAMES;
     let mut number: u8 = 0;
     let mut at: usize = 0;
-    while at < 105 {
+    while at < 117 {
         let next = past(&names, at, TAB);
         if lists::same(name, part(&names, at, next)) {
             return number;

@@ -2,7 +2,8 @@
 use mathlib.Core.Path.{refl}
 use native.Mathlib.Omega.{arith}
 use borrow.Author.Needs.{needs}
-use Rattle.answers.proofs.Replies.{framed-as, replied, unreplied, answer-whole, too-long}
+use Rattle.framing.proofs.Refusals.{framed-as}
+use Rattle.answers.proofs.Replies.{replied, unreplied, answer-whole, too-long}
 use Rattle.answers.proofs.send.Statement.{statement}
 use Rattle.answers.proofs.send.Tie as tie
 

@@ -1,0 +1,28 @@
+-- What follows from the definitions, for the engineer and the technician.
+use mathlib.Core.Path.{_≡_}
+use mathlib.Core.List.{List, [], _∷_}
+use Prim.Native.Nat.{ℕ, _≤_}
+use lib.ListN.{length}
+use Rattle.framing.specs.Frame.{longestFrame}
+use Rattle.requests.specs.Requests.{syncPacket, beginPacket, endPacket}
+use Rattle.sender.specs.Load.{announces, InWords}
+use Rattle.sender.specs.Line.{packetsOf}
+use Rattle.sender.specs.Sending.{loadRefusal, refusal}
+
+-- Whatever is to be sent, a buffer of that length is not too short: 8 is not given.
+abbrev pub FrameFits : Type 0
+FrameFits =
+    (image : List ℕ) (offset block flash number : ℕ) (buffer : List ℕ) → longestFrame ≤ length buffer
+    → refusal image offset block flash number buffer ≡ 8 → ⊥
+
+-- "numbers that no 32-bit word can hold" are refused: those of a load that is not are words.
+abbrev pub NumbersAreWords : Type 0
+NumbersAreWords =
+    (size offset block flash : ℕ) → loadRefusal size offset block flash ≡ 0 → InWords (announces size offset block)
+
+-- "An empty image gives a session of no blocks": SYNC, BEGIN with S = 0 and n = 0, END.
+abbrev pub EmptyImage : Type 0
+EmptyImage =
+    (offset block : ℕ)
+    → packetsOf [] offset block
+    ≡ syncPacket ∷ beginPacket (record { size = 0; count = 0; block = block; offset = offset }) ∷ endPacket ∷ []

@@ -1,0 +1,12 @@
+pub mod Over
+pub mod Frames
+pub mod Feeding
+pub mod Pieces
+pub mod Requests
+pub mod Succeeding
+pub mod Commands
+pub mod Blocks
+pub mod Load
+pub mod Theorems
+pub mod Worked
+pub mod Judged
