@@ -5,10 +5,10 @@
   make_load.py DIR --check      say whether the three files are those, and write nothing
   make_load.py --compare SEND [LISTING]
                                 run the program SEND on loads at every edge, on refused ones and on wrong arguments, and compare what it
-                                writes with this script; with LISTING, also that the listing of each load that fits its flash is all 00 00
+                                writes with this script; with LISTING, also that the listing of each load that fits the listing's flash is all 00 00
 
 What is written is worked out here from document 01 and request Six of document 02 alone, with the packets and the chip of
-make_sample.py. Each line that the script makes is fed to that chip first, wherever its flash is as long: every packet has to succeed,
+make_sample.py. Each line that the script makes is fed to that chip first, wherever FLASH is 65,536: every packet has to succeed,
 and the image has to stand at its offset.
 """
 import pathlib

@@ -48,7 +48,7 @@ pub fn round_up(x: u32) -> u64
     x as u64 + ((SECTOR - x % SECTOR) % SECTOR) as u64
 }
 
-// The count of no bytes.
+// The count of no bytes, and of blocks of none.
 const NO_BLOCKS: u32 = 0;
 
 // How many blocks hold so many bytes: S/b rounded up, and none where b is 0. With S from 1 this is (S - 1)/b + 1: no product, and a sum

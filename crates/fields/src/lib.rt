@@ -1,4 +1,4 @@
-// The fields of packets and frames: their places, words, checksums, the masked merge.
+// The fields of packets and frames: their places, words, headers, checksums, the masked merge.
 ghost use mathlib.Core.Path.{_≡_};
 ghost use Prim.Native.Nat.{_<_, _%_};
 ghost use lib.ListN.{getD, drop};

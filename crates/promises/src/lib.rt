@@ -303,8 +303,9 @@ pub fn numbers_are_words()
     ensures { λ r. ⌜ NumbersAreWords ⌝ }
 {}
 
-// A load that the sender does not refuse for a flash, fed to a fresh loader with that flash by byte calls, by run calls, or cut anywhere:
-// the calls that close a packet are its packets, one for one, each answered with success; and so after every packet.
+// A load that the sender does not refuse for a flash, fed to a fresh loader with that flash, and other buffers that it accepts, by byte
+// calls, by run calls, or cut anywhere: the calls that close a packet are its packets, one for one, each answered with success; and so
+// after every packet.
 pub fn every_packet_succeeds()
     ensures { λ r. ⌜ EveryPacketSucceeds ⌝ }
 {}

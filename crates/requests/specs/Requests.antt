@@ -29,7 +29,7 @@ beginPacket g =
 unfoldable pub padded : (block : ℕ) (bytes : List ℕ) → List ℕ
 padded block bytes = bytes ++ replicate (block - length bytes) 0xFF
 
--- FLASH_DATA: "data size, sequence, 0, 0, data", with the checksum of the data, as many as the block size
+-- FLASH_DATA: "data size, sequence, 0, 0, data", with the checksum of the data; the data size field is the block size
 unfoldable pub dataPacket : (block k : ℕ) (bytes : List ℕ) → List ℕ
 dataPacket block k bytes =
     request FLASH-DATA (checksum bytes) (bytesOf block ++ (bytesOf k ++ (bytesOf 0 ++ (bytesOf 0 ++ bytes))))

@@ -31,7 +31,7 @@ const STAY: u32 = 1;
 // The largest block as a length.
 const LARGEST: usize = LARGEST_BLOCK as usize;
 
-// Four words, end to end.
+// The bytes of four words.
 type FourWords = [u8; 16];
 
 // Four words, end to end.
@@ -80,7 +80,7 @@ pub fn begin(begin: Begin, buffer: &mut [u8]) -> Framed
     framing::frame_parts(&head, &words, b"", buffer)
 }
 
-// What stands before the data of block k, so many bytes.
+// The header and the four words that stand before so many bytes of data: the data size field, the sequence number, 0, 0.
 fn block_head(sum: u8, size: u32, block: u32, k: u32) -> [u8; 24]
     requires { ⌜ size ≤ 4096 ⌝ }
     ensures { λ r. ⌜ r ≡ headerOf 0 FLASH-DATA (16 + size) sum ++ (bytesOf block ++ (bytesOf k ++ (bytesOf 0 ++ bytesOf 0))) ⌝ }

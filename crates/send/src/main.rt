@@ -44,14 +44,7 @@ fn say_refused(number: u8) {
         );
         return;
     }
-    if number == 16 {
-        io::write_all(
-            STDERR_FILENO,
-            b": the load has no packet with this number\n",
-        );
-        return;
-    }
-    io::write_all(STDERR_FILENO, b": the packet does not fit its buffer\n");
+    io::write_all(STDERR_FILENO, b": the packet cannot be written\n");
 }
 
 // Writes one packet of an accepted load; whether to go on. Where the output fails it says so, and there is no sense in going on.

@@ -9,13 +9,13 @@ use Rattle.sender.specs.Load.{announces, InWords}
 use Rattle.sender.specs.Line.{packetsOf}
 use Rattle.sender.specs.Sending.{loadRefusal, refusal}
 
--- Whatever is to be sent, a buffer of that length is not too short: 8 is not given.
+-- Whatever is to be sent, a buffer that holds the longest frame is not too short: 8 is not given.
 abbrev pub FrameFits : Type 0
 FrameFits =
     (image : List ℕ) (offset block flash number : ℕ) (buffer : List ℕ) → longestFrame ≤ length buffer
     → refusal image offset block flash number buffer ≡ 8 → ⊥
 
--- "numbers that no 32-bit word can hold" are refused: those of a load that is not are words.
+-- A load with a number that no 32-bit word can hold is refused: those of one that is not are words.
 abbrev pub NumbersAreWords : Type 0
 NumbersAreWords =
     (size offset block flash : ℕ) → loadRefusal size offset block flash ≡ 0 → InWords (announces size offset block)

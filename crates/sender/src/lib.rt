@@ -77,7 +77,8 @@ fn send_block(begin: Begin, k: u32, image: &[u8], buffer: &mut [u8]) -> Framed
 
 // The packet with this number, from 0, framed at the front of the buffer: SYNC, FLASH_BEGIN, the blocks, FLASH_END. Refusals, in order: 3
 // the flash length, 15 the BEGIN of this load would be refused, 16 a number past the END, 8 buffer too short: one of LONGEST_FRAME bytes
-// never is. Only the bytes of this block are looked at, whatever the image's length.
+// never is. Only the bytes of this block are looked at, whatever the image's length. The offset in flash, the block size and the flash
+// length are in bytes.
 pub fn packet(
     image: &[u8],
     offset: usize,

@@ -1,4 +1,4 @@
--- A line fed to a fresh loader, in every way that a caller can: "by byte calls, and by run calls however they are cut".
+-- "Fed in order to a fresh loader": a line, in every way that a caller can feed it, by bytes or by runs, "However a stream is cut" (request One).
 use mathlib.Core.Path.{_≡_}
 use mathlib.Core.List.{List, map}
 use mathlib.Core.Bool.{true}

@@ -1,4 +1,4 @@
--- What a call of the sender writes is the packet with its number, and "what it writes the cut reads".
+-- What a call of the sender writes is the packet with its number, and the packets of the line by cutting are those that it wrote.
 use mathlib.Core.Path.{_≡_}
 use mathlib.Core.List.{List, [], _∷_, map}
 use Prim.Native.Nat.{ℕ, _≤_, _<_}
@@ -10,7 +10,7 @@ use Rattle.sender.specs.Packets.{packetOf}
 use Rattle.sender.specs.Line.{packetsOf, loadLine}
 use Rattle.sender.specs.Sending.{loadRefusal, sending}
 
--- The calls with the numbers of a load write its line, frame by frame.
+-- Each call writes the frame of the packet with its number; `loadLine` is these frames, in order.
 pub record SenderWrites : Type 0 where
   -- the n bytes that a call tells, from the front of the buffer that it leaves, are the packet with its number, framed
   pub front :
@@ -23,7 +23,7 @@ pub record SenderWrites : Type 0 where
       → loadRefusal (length image) offset block flash ≡ 0 → number < packetCount (length image) block → longestFrame ≤ length buffer
       → sending image offset block flash number buffer .report ≡ wrote (length (framed (packetOf image offset block number)))
 
--- "each framed packet is one packet of the line, read, with the contents of `packetOf`"
+-- Each framed packet is one packet of the line, read, with the contents of `packetOf`.
 pub record SenderIsRead : Type 0 where
   -- the n bytes that a call tells are one packet
   pub each :

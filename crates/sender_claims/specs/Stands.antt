@@ -1,4 +1,4 @@
--- "after the END the image stands at its offset as demand 3 says": the four parts of flash that demand 3 names (history::Loaded), with the image itself where that has the blocks' data. Of the sender it takes the line of a load, and nothing else.
+-- "after the END the image stands at its offset as demand 3 says": the four parts of flash that demand 3 names (history::Loaded), with the image itself where that has the blocks' data. Of the sender it takes which loads are refused and the line of a load: definitions, and no code.
 use mathlib.Core.Path.{_≡_}
 use mathlib.Core.List.{List}
 use Prim.Native.Nat.{ℕ, _+_, _-_}

@@ -12,7 +12,7 @@ use tables::part;
 use tables::put_byte;
 use unframing::Closing;
 
-// The most bytes of a field: the longest packet, framed, and more.
+// The most bytes of a field: the longest frame.
 pub const LONGEST_FIELD: usize = LONGEST_FRAME;
 
 pub const FLASH_LENGTH: usize = 65536;

@@ -8,10 +8,10 @@ use sender::LONGEST_FRAME;
 use tables::part;
 use tables::put_byte;
 
-// No image has more bytes.
+// No image of the table has more bytes.
 const IMAGE: usize = 16384;
 
-// No load has more bytes, framed.
+// No load of the table has more bytes, framed. What does not fit is left out, and the loader closes fewer packets than there are.
 const LINE: usize = 65536;
 
 // The numbers of a load: offset, block size, flash length, image length.
