@@ -28,7 +28,7 @@ use Rattle.claims.proofs.HoweverCut.{runs-as-bytes}
 use Rattle.claims.proofs.Demand3.{demand3}
 use Rattle.claims.proofs.WorkedLoad.{all-line, long-pass}
 use Rattle.sender_claims.specs.Fed.{Accepted, LineFed, by-bytes, by-runs, cut-anywhere, fresh}
-use Rattle.sender_claims.proofs.Over.{tellsOver, coreOver, Framable}
+use Rattle.sender_claims.proofs.Over.{tellsOver, coreOver, AllFrameable}
 use Rattle.sender_claims.proofs.Frames.{todo-frames}
 
 -- ---- packets handled one after the other
@@ -87,7 +87,7 @@ threaded-long (b ∷ bs) s e h = (h, threaded-long bs (oneByte s b .left) (e .1)
 -- ---- the three ways of feeding
 
 module _ (buffer flash words : List ℕ) (ps : List (List ℕ)) (accepted : Accepted buffer words) (good : flashLength (length flash) ≡ true)
-    (framable : Framable ps) where
+    (frameable : AllFrameable ps) where
   abbrev m : Machine
   m = start buffer flash words
 
@@ -97,7 +97,7 @@ module _ (buffer flash words : List ℕ) (ps : List (List ℕ)) (accepted : Acce
   runs-over : (cs : List RunCall) → lineTaken m cs ≡ framedAll ps → Handled (map (λ h. h .told) (closingRuns m cs)) (runCalls m cs .machine)
   runs-over cs e =
       let f = from-start buffer flash words cs in
-      let t : todo none (lineTaken m cs) ≡ map closedWhole ps = ap (todo none) e ∙ todo-frames ps framable in (
+      let t : todo none (lineTaken m cs) ≡ map closedWhole ps = ap (todo none) e ∙ todo-frames ps frameable in (
         ap (map (λ h. h .told)) (f .closes ∙ ap (closings (coreAt m)) t) ∙ tells-over ps (coreAt m),
         f .left ∙ ap (coreLeft (coreAt m)) t ∙ core-over ps (coreAt m),
       )
@@ -119,10 +119,10 @@ module _ (buffer flash words : List ℕ) (ps : List (List ℕ)) (accepted : Acce
       rw (runs-as-bytes runs s, e, threaded-tells (framedAll ps) s, threaded-left (framedAll ps) s) b
 
 pub fed-over : (buffer flash words : List ℕ) (ps : List (List ℕ)) (told : List Told) (left : Machine)
-    → Accepted buffer words → flashLength (length flash) ≡ true → Framable ps
+    → Accepted buffer words → flashLength (length flash) ≡ true → AllFrameable ps
     → LineFed buffer flash words (framedAll ps) told left
     → (told ≡ tellsOver (coreAt (start buffer flash words)) ps) × (coreAt left ≡ coreOver (coreAt (start buffer flash words)) ps)
-fed-over buffer flash words ps told left accepted good framable (by-bytes cs e) = bytes-over buffer flash words ps accepted good framable cs e
-fed-over buffer flash words ps told left accepted good framable (by-runs cs e) = runs-over buffer flash words ps accepted good framable cs e
-fed-over buffer flash words ps told left accepted good framable (cut-anywhere answer runs long e) =
-    cut-over buffer flash words ps accepted good framable answer runs long e
+fed-over buffer flash words ps told left accepted good frameable (by-bytes cs e) = bytes-over buffer flash words ps accepted good frameable cs e
+fed-over buffer flash words ps told left accepted good frameable (by-runs cs e) = runs-over buffer flash words ps accepted good frameable cs e
+fed-over buffer flash words ps told left accepted good frameable (cut-anywhere answer runs long e) =
+    cut-over buffer flash words ps accepted good frameable answer runs long e

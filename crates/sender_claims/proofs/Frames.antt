@@ -11,24 +11,24 @@ use Rattle.packets.proofs.Cut.{clean-nil, todo, todo-none, todo-first, todo-aga
 use Rattle.claims.proofs.Passing.{packetOf}
 use Rattle.claims.proofs.RunLine.{law-first}
 use Rattle.claims.proofs.Arrives.{todo-framed}
-use Rattle.sender_claims.proofs.Over.{Framable}
+use Rattle.sender_claims.proofs.Over.{AllFrameable}
 
 -- a framed packet ends with a C0, so that the frames behind it begin after an empty open stretch
 framed-then : (p bs : List ℕ) → framed p ++ bs ≡ END ∷ (escaped p ++ END ∷ bs)
 unfolding framed
 framed-then p bs = ap (λ l. END ∷ l) (append-assoc (escaped p) (END ∷ []) bs)
 
-todo-frames-on : (ps : List (List ℕ)) → Framable ps → todo (some []) (framedAll ps) ≡ map closedWhole ps
-unfolding framedAll Framable
+todo-frames-on : (ps : List (List ℕ)) → AllFrameable ps → todo (some []) (framedAll ps) ≡ map closedWhole ps
+unfolding framedAll AllFrameable
 todo-frames-on [] f = todo-open [] clean-nil
 todo-frames-on (p ∷ ps) f =
     ap (todo (some [])) (framed-then p (framedAll ps))
     ∙ todo-again (escaped p ++ END ∷ framedAll ps)
-    ∙ todo-framed p (f .0 .0) (f .0 .1) (framedAll ps)
+    ∙ todo-framed p (f .0 .least) (f .0 .most) (framedAll ps)
     ∙ ap (λ ds. closedWhole p ∷ ds) (todo-frames-on ps (f .1))
 
 -- what the line closes, from its start
-pub todo-frames : (ps : List (List ℕ)) → Framable ps → todo none (framedAll ps) ≡ map closedWhole ps
+pub todo-frames : (ps : List (List ℕ)) → AllFrameable ps → todo none (framedAll ps) ≡ map closedWhole ps
 unfolding framedAll
 todo-frames [] f = todo-none
 todo-frames (p ∷ ps) f =
@@ -39,7 +39,7 @@ todo-frames (p ∷ ps) f =
     ∙ ap (todo (some [])) (sym e)
     ∙ todo-frames-on (p ∷ ps) f
 
-pub packets-framed-all : (ps : List (List ℕ)) → Framable ps → packets (framedAll ps) ≡ map (λ p. header (whole p)) ps
+pub packets-framed-all : (ps : List (List ℕ)) → AllFrameable ps → packets (framedAll ps) ≡ map (λ p. header (whole p)) ps
 unfolding packets stretches ended nonempty
 packets-framed-all ps f =
     law-first (framedAll ps) ∙ ap (map packetOf) (todo-frames ps f) ∙ map-map packetOf closedWhole ps

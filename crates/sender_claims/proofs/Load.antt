@@ -14,7 +14,7 @@ use Rattle.sender.specs.Line.{consecutive, packetsOf}
 use Rattle.sender.specs.Sending.{loadRefusal}
 use Rattle.sender_claims.specs.Succeeds.{success}
 use Rattle.sender_claims.specs.Stands.{Stands}
-use Rattle.sender_claims.proofs.Over.{tellsOver, coreOver, Framable}
+use Rattle.sender_claims.proofs.Over.{tellsOver, coreOver, AllFrameable}
 use Rattle.sender.proofs.Sizes.{sized}
 use Rattle.requests.proofs.Lengths.{Frameable}
 use Rattle.sender.proofs.Packets.{packet-frameable}
@@ -22,20 +22,20 @@ use Rattle.sender_claims.proofs.Requests.{IsRead, packet-read}
 use Rattle.sender_claims.proofs.Succeeding.{succeeding-tells, succeeding-so-far, succeeding-leaves}
 use Rattle.sender_claims.proofs.Blocks.{all-succeed, stands}
 
-framable : (ns : List ℕ) (f : ℕ → List ℕ) → ((n : ℕ) → Frameable (f n)) → Framable (map f ns)
-unfolding Framable
-framable [] f r = tt
-framable (n ∷ ns) f r = ((r n .least, r n .most), framable ns f r)
+frameable-all : (ns : List ℕ) (f : ℕ → List ℕ) → ((n : ℕ) → Frameable (f n)) → AllFrameable (map f ns)
+unfolding AllFrameable
+frameable-all [] f r = tt
+frameable-all (n ∷ ns) f r = (r n, frameable-all ns f r)
 
 all-read : (ns : List ℕ) (f : ℕ → List ℕ) → ((n : ℕ) → IsRead (f n)) → map (λ p. header (whole p)) (map f ns) ≡ map read (map f ns)
 all-read [] f r = refl
 all-read (n ∷ ns) f r = rw (r n, all-read ns f r)
 
 module _ (image : List ℕ) (offset block flash : ℕ) (good : loadRefusal (length image) offset block flash ≡ 0) where
-  pub load-framable : Framable (packetsOf image offset block)
+  pub load-frameable : AllFrameable (packetsOf image offset block)
   unfolding packetsOf
-  load-framable =
-      framable (consecutive 0 (packetCount (length image) block)) (packetOf image offset block)
+  load-frameable =
+      frameable-all (consecutive 0 (packetCount (length image) block)) (packetOf image offset block)
       (λ n. packet-frameable image offset block n (sized _ _ _ _ good .most))
 
   pub load-read : map (λ p. header (whole p)) (packetsOf image offset block) ≡ map read (packetsOf image offset block)

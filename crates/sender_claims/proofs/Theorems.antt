@@ -22,11 +22,11 @@ use Rattle.sender.proofs.Sending.{told as nothing-refused, is-framing, frameabl
 use Rattle.sender_claims.specs.Reads.{SenderWrites, SenderIsRead}
 use Rattle.sender_claims.specs.Succeeds.{EveryPacketSucceeds}
 use Rattle.sender_claims.specs.Stands.{ImageStands}
-use Rattle.sender_claims.proofs.Over.{coreOver, Framable, framable-take}
+use Rattle.sender_claims.proofs.Over.{coreOver, AllFrameable, frameable-take}
 use Rattle.sender_claims.proofs.Frames.{packets-framed-all}
 use Rattle.sender_claims.proofs.Feeding.{fed-over}
 use Rattle.sender_claims.proofs.Requests.{packet-read}
-use Rattle.sender_claims.proofs.Load.{load-framable, load-read, freshCore, load-tells, load-so-far, load-leaves}
+use Rattle.sender_claims.proofs.Load.{load-frameable, load-read, freshCore, load-tells, load-so-far, load-leaves}
 
 flash-good : (size offset block flash : ℕ) → loadRefusal size offset block flash ≡ 0 → flashLength flash ≡ true
 unfolding loadRefusal loadChecks
@@ -41,19 +41,19 @@ unfolding loadLine
 every-packet-succeeds =
     record {
       all = λ image offset block buffer flash words told left bytes good accepted fed.
-          let framable = load-framable image offset block (length flash) good in
-          let f = fed-over buffer flash words (packetsOf image offset block) told left accepted (flash-good _ _ _ _ good) framable fed in
+          let fits = load-frameable image offset block (length flash) good in
+          let f = fed-over buffer flash words (packetsOf image offset block) told left accepted (flash-good _ _ _ _ good) fits fed in
           f .0 ∙ rw (fresh-core buffer flash words) (load-tells image offset block flash words bytes good);
       so-far = λ image offset block buffer flash words told left n bytes good accepted fed.
-          let framable = framable-take n (packetsOf image offset block) (load-framable image offset block (length flash) good) in
-          let f = fed-over buffer flash words (take n (packetsOf image offset block)) told left accepted (flash-good _ _ _ _ good) framable fed in
+          let fits = frameable-take n (packetsOf image offset block) (load-frameable image offset block (length flash) good) in
+          let f = fed-over buffer flash words (take n (packetsOf image offset block)) told left accepted (flash-good _ _ _ _ good) fits fed in
           f .0 ∙ rw (fresh-core buffer flash words) (load-so-far image offset block flash words bytes good n);
     }
 
 pub image-stands : ImageStands
 unfolding loadLine
 image-stands image offset block buffer flash words told left bytes good accepted fed =
-    let f = fed-over buffer flash words (packetsOf image offset block) told left accepted (flash-good _ _ _ _ good) (load-framable image offset block (length flash) good) fed in
+    let f = fed-over buffer flash words (packetsOf image offset block) told left accepted (flash-good _ _ _ _ good) (load-frameable image offset block (length flash) good) fed in
     let l = load-leaves image offset block flash words bytes good in
     let e : coreAt left ≡ coreOver (freshCore flash words) (packetsOf image offset block) = f .1 ∙ rw (fresh-core buffer flash words) refl in
     record {
@@ -80,10 +80,10 @@ module _ (image : List ℕ) (offset block flash number : ℕ) (buffer : List ℕ
   written = rw as-framing (left-by .front)
 
   one-read : packets (take n (sending image offset block flash number buffer .buffer)) ≡ read p ∷ []
-  unfolding framedAll Framable
+  unfolding framedAll AllFrameable
   one-read =
       rw written
-      (ap packets (sym (append-nil (framed p))) ∙ packets-framed-all (p ∷ []) ((left-by .filled, left-by .fits), tt) ∙ rw (packet-read image offset block number) refl)
+      (ap packets (sym (append-nil (framed p))) ∙ packets-framed-all (p ∷ []) (record { least = left-by .filled; most = left-by .fits }, tt) ∙ rw (packet-read image offset block number) refl)
 
 fits-long : (image : List ℕ) (offset block flash number : ℕ) (buffer : List ℕ)
     → loadRefusal (length image) offset block flash ≡ 0 → number < packetCount (length image) block → longestFrame ≤ length buffer
@@ -104,5 +104,5 @@ sender-is-read =
     record {
       each = one-read;
       all = λ image offset block flash good.
-          packets-framed-all (packetsOf image offset block) (load-framable image offset block flash good) ∙ load-read image offset block flash good;
+          packets-framed-all (packetsOf image offset block) (load-frameable image offset block flash good) ∙ load-read image offset block flash good;
     }

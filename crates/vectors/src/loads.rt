@@ -107,11 +107,12 @@ fn add_all(image: &[u8], numbers: Numbers, count: usize, line: &mut [u8; LINE]) 
     at
 }
 
-// A load of so many packets that a loader is fed.
+// Feeds a loader the first n bytes of a line, of so many packets.
 fn feed_line(line: &[u8; LINE], n: usize, count: usize, got: &mut [u8]) -> usize {
     chip::on_load((count % 256) as u8, part(line, 0, n), got)
 }
 
+// Feeds a loader a load of so many packets.
 fn feed_packets(image: &[u8], numbers: Numbers, count: usize, got: &mut [u8]) -> usize {
     let mut line = [0u8; LINE];
     let n = add_all(image, numbers, count, &mut line);
