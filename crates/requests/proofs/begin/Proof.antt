@@ -1,6 +1,5 @@
-use mathlib.Core.Path.{refl}
 use Rattle.framing.proofs.Refusals.{framed-as}
-use Rattle.requests.specs.Requests.{request, beginPacket}
+use Rattle.requests.proofs.Parts.{begin-whole}
 use borrow.Author.Needs.{needs}
 use Rattle.requests.proofs.begin.Statement.{statement}
 use Rattle.requests.proofs.begin.Tie as tie
@@ -27,11 +26,11 @@ same-length : tie.Need-same-length
 same-length c = search needs
 
 returns : tie.Need-returns
-unfolding request beginPacket
 returns c =
     let at-frame = c .before .before in
     let at-words = at-frame .before .before .before .before .before in
-    framed-as _ _ _ _ _ (rw (at-words .before .header .ensures, at-words .four-words .ensures) refl) (at-frame .frame-parts .ensures)
+    let g = at-words .before .before .before .args .begin in
+    framed-as _ _ _ _ _ (begin-whole g (at-words .before .header .ensures) (at-words .four-words .ensures)) (at-frame .frame-parts .ensures)
 
 pub begin-spec : {M : Type 1} → statement M
 begin-spec =

@@ -50,7 +50,7 @@ returns-4 : tie.Need-returns-4
 returns-4 c =
     let at-past = c .before .before .before .before .before .before in
     let a = at-past .before .before .before .before .before .args in
-    framed-as _ _ _ _ _ (ap (dataPacket (a .block) (a .k)) (rw (at-past .past .ensures) (some-missing (a .block) (a .part .now) (omega arith)))) (c .before .before .data-parts2 .ensures)
+    framed-as _ _ _ _ _ (ap (dataPacket (a .block) (a .k)) (rw (at-past .past .ensures) (some-missing (a .block) _ (a .part .now) (omega arith) (omega arith)))) (c .before .before .data-parts2 .ensures)
 
 pub block-spec : {M : Type 1} → statement M
 block-spec =

@@ -1,5 +1,5 @@
 use mathlib.Core.Path.{refl}
-use Rattle.lists.specs.Lay.{lay, layIfFits}
+use Rattle.requests.proofs.Parts.{head-whole}
 use borrow.Author.Needs.{needs}
 use Rattle.requests.proofs.block_head.Statement.{statement}
 use Rattle.requests.proofs.block_head.Tie as tie
@@ -32,11 +32,10 @@ copy-at-requires-2 : tie.Need-copy-at-requires-2
 copy-at-requires-2 c κs = search needs
 
 returns : tie.Need-returns
-unfolding lay layIfFits
 returns c =
     let at-words = c .before .before .before in
     let at-first = at-words .before .before .before in
-    rw (c .before .copy-at2 .ensures, at-words .four-words .ensures, at-first .copy-at .ensures, at-first .before .before .header .ensures) refl
+    head-whole _ _ _ _ _ _ _ (at-first .copy-at .ensures) (c .before .copy-at2 .ensures) (at-first .before .before .header .ensures) (at-words .four-words .ensures) refl refl refl
 
 pub block-head-spec : {M : Type 1} → statement M
 block-head-spec =
