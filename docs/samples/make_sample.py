@@ -6,7 +6,7 @@
   make_sample.py --large MIB FILE [TEXT]
                                   write a capture of about so many MiB, to time the listing with, and its listing to TEXT
 
-What is printed is worked out here from document 01 and requests Two and Four of document 02 alone, by the class Chip.
+What is printed is worked out here from document 01 and requests Two, Four and Seven of document 02 alone, by the class Chip.
 Each packet of the sample also says what it is there for and what it has to get, its error or the reason it is dropped
 for, and a good digest command the bytes whose digest it is. A packet that gets something else stops the script.
 """
@@ -23,7 +23,7 @@ SHORTEST = 8
 REASONS = ("ESC", "CUT", "LONG", "SHORT", "DIR")
 
 
-# ---- document 01 and requests Two and Four, the chip's end
+# ---- document 01 and requests Two, Four and Seven, the chip's end
 
 def up(x, step):
     return (x + step - 1) // step * step
@@ -125,6 +125,8 @@ class Chip:
             return 0xC2
         if not self.parameters(command, word, body):
             return 0xC5
+        if command == 0x0D and word[0] not in (0, 1) and len(set(self.fields(word[0]))) < 5:
+            return 0xC7
         if data:
             if s["k"] == s["n"]:
                 return 0xC9
@@ -161,8 +163,12 @@ class Chip:
         if command in (0x09, 0x0A):
             inside = word[0] % 4 == 0 and WORDS_AT <= word[0] < end
             return inside and (command == 0x0A or word[3] == 0)
-        fields = [word[0] >> shift & 63 for shift in (24, 18, 12, 6, 0)]
-        return word[0] in (0, 1) or word[0] >> 30 == 0 and all(field <= 31 for field in fields)
+        return word[0] in (0, 1) or word[0] >> 30 == 0 and all(field <= 31 for field in self.fields(word[0]))
+
+    @staticmethod
+    def fields(word):
+        """HD, Q, D, CS, CLK."""
+        return [word >> shift & 63 for shift in (24, 18, 12, 6, 0)]
 
     def carry_out(self, command, body):
         """The value and the digest of the answer."""
@@ -402,10 +408,20 @@ def sample():
     c.send(packet(0x0D, words(0)), "SPI_ATTACH, default")
     c.send(packet(0x0D, words(1)), "HSPI")
     c.send(packet(0x0D, words(0x091C82C6)), "case 9's pins")
-    c.send(packet(0x0D, words(0x0000001F)), "CLK at pin 33, field 31")
-    c.send(packet(0x0D, words(0x00000020)), "field 32", 0xC5)
+    c.send(packet(0x0D, words(0x091C82DF)), "CLK at pin 33, field 31")
+    c.send(packet(0x0D, words(0x091C82E0)), "field 32", 0xC5)
     c.send(packet(0x0D, words(0x091C82C6 | 1 << 30)), "a bit above the five fields", 0xC5)
     c.send(packet(0x0D, words(0, 0)), "SPI_ATTACH of two words, as the ESP32's ROM takes it", 0xC0)
+    names, pins = ("HD", "Q", "D", "CS", "CLK"), (9, 7, 8, 11, 6)
+    for one in range(5):
+        for other in range(one + 1, 5):
+            shared = [pins[one] if at == other else pin for at, pin in enumerate(pins)]
+            word = sum(pin << shift for pin, shift in zip(shared, (24, 18, 12, 6, 0)))
+            c.send(packet(0x0D, words(word)), "%s and %s on one pin" % (names[one], names[other]), 0xC7)
+    c.send(packet(0x0D, words(0x00000002)), "four lines on pin 0", 0xC7)
+    c.send(packet(0x0D, words(0x091C72C6 | 1 << 30)), "two lines on one pin and a bit above the fields: C5 comes first", 0xC5)
+    c.send(packet(0x0D, words(0x208082C6)), "two fields of 32: C5 comes first", 0xC5)
+    c.send(packet(0x0D, words(0)), "the default again")
     for command in (0x00, 0x0B, 0x0C, 0x0E, 0x0F, 0x12, 0xC0, 0xD0, 0xDB, 0xFF):
         c.send(packet(command, b""), "a command that is not in the list", 0xFF)
     c.send(packet(0x0B, words(0), size=9), "and whose size is wrong: the command comes first", 0xFF)

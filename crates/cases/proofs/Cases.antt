@@ -9,7 +9,8 @@ use Rattle.lists.specs.Checks.{first}
 use Rattle.fields.specs.Words as words
 use Rattle.fields.specs.Checksum.{xored, checksum}
 use Rattle.fields.specs.Merge.{mergedBits, merged}
-use Rattle.pins.specs.Pins.{pinGood, pinField, pinsGood, pinsWord, packingOf}
+use Rattle.pins.specs.Pins.{twoEqual}
+use Rattle.pins.specs.Packer.{pinGood, pinField, pinsGood, pinsWord, packingOf}
 use Rattle.framing.specs.Frame.{escaped, framed}
 use Rattle.packets.specs.Packets.{header}
 use Rattle.commands.specs.Header.{command, sized, shaped}
@@ -41,7 +42,7 @@ lost-now {l} {buffer} p = record { told = polled-lost l buffer _ _ p; in-start =
 
 pub starred : Starred
 unfolding
-    checksum xored frames.frameOf framed escaped merged mergedBits packingOf pinsGood pinsWord pinGood pinField
+    checksum xored frames.frameOf framed escaped merged mergedBits packingOf pinsGood pinsWord pinGood pinField twoEqual
     handle carriedOut failed errorOf checks plainChecks first kind command shaped sized words.word words.half header
     syncRule sameBytes allAre effect beginOf flashRule counted roundUp
 starred = record {

@@ -12,7 +12,7 @@ use Rattle.lists.specs.Lay.{lay}
 use Rattle.lists.specs.Checks.{first}
 use Rattle.lists.proofs.Laws.{length-lay}
 use Rattle.lists.proofs.Tests.{first-passed, first-append}
-use Rattle.pins.specs.Pins.{attachGood}
+use Rattle.pins.proofs.Theorems.{zero-taken}
 use Rattle.framing.specs.Frame.{END, longest, escaped, framed, framedAll}
 use Rattle.unframing.specs.Reasons.{whole}
 use Rattle.packets.specs.Packets.{header}
@@ -197,8 +197,8 @@ abbrev pub freshCore : Lending → Core
 freshCore r = coreOf freshLoader (r .flash) (r .words)
 
 pub allowed-fresh : (r : Lending) → Allowed fresh (freshCore r) (r .packet) (r .answer) none
-unfolding sessionGood attachGood
-allowed-fresh r = record { buffers = r .pass; pending = pend-fresh (r .packet); sound = record { session = refl; attach = refl } }
+unfolding sessionGood
+allowed-fresh r = record { buffers = r .pass; pending = pend-fresh (r .packet); sound = record { session = refl; attach = zero-taken } }
 
 -- the loader stands between packets with the core c, and no refusal applies
 pub record Idle (s : Step) (c : Core) : Type 0 where

@@ -4,6 +4,7 @@ pub mod Blocks
 pub mod Linked
 pub mod Cases
 pub mod Digests
+pub mod Pins
 pub mod Runs
 pub mod Calls
 pub mod Listing

@@ -7,7 +7,7 @@ use lib.ListN.{length, take, drop, replicate}
 use Rattle.lists.specs.Checks.{first}
 use Rattle.fields.specs.Checksum.{checksum}
 use Rattle.fields.specs.Merge.{merged}
-use Rattle.pins.specs.Pins.{word, packingOf}
+use Rattle.pins.specs.Packer.{word, packingOf}
 use Rattle.framing.specs.Frame.{framed, framedAll}
 use Rattle.begins.specs.Begin.{flashRule}
 use Rattle.link_frames.specs.Frames.{baudRate, dataFrame}

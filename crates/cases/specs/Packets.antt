@@ -39,3 +39,7 @@ abbrev pub digestPacket : ℕ → ℕ → ℕ → ℕ → List ℕ
 digestPacket address size third fourth =
     0x00 ∷ 0x13 ∷ 0x10 ∷ 0x00 ∷ 0x00 ∷ 0x00 ∷ 0x00 ∷ 0x00
     ∷ (bytesOf address ++ (bytesOf size ++ (bytesOf third ++ bytesOf fourth)))
+
+-- SPI_ATTACH with this word
+abbrev pub attachPacket : ℕ → List ℕ
+attachPacket word = 0x00 ∷ 0x0D ∷ 0x04 ∷ 0x00 ∷ 0x00 ∷ 0x00 ∷ 0x00 ∷ 0x00 ∷ bytesOf word

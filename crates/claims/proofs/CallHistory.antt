@@ -5,7 +5,7 @@ use mathlib.Core.Option.{none}
 use Prim.Native.Nat.{ℕ, zero, suc, _<_}
 use native.Mathlib.Omega.{arith}
 use lib.ListN.{length, getD}
-use Rattle.pins.specs.Pins.{attachGood}
+use Rattle.pins.proofs.Theorems.{zero-taken}
 use Rattle.packets.specs.Packets.{classify, stretches, stored, packets}
 use Rattle.packets.specs.Theorems.{closedAs}
 use Rattle.packets.proofs.Cut.{todo}
@@ -35,10 +35,10 @@ closings-at c (s ∷ ss) zero h = refl
 closings-at c (s ∷ ss) (suc i) h = closings-at (handle c (classify s) .core) ss i (omega arith)
 
 pub from-start : (buffer flash words : List ℕ) (cs : List RunCall) → FollowsRuns (start buffer flash words) none [] cs
-unfolding start sessionGood attachGood
+unfolding start sessionGood
 from-start buffer flash words cs =
     runs-follow cs (start buffer flash words) none []
-    (record { pending = pend-fresh buffer; sound = record { session = refl; attach = refl } }) law-first
+    (record { pending = pend-fresh buffer; sound = record { session = refl; attach = zero-taken } }) law-first
 
 pub runs-are-history : RunsAreHistory
 unfolding todo packets storedAt

@@ -11,7 +11,7 @@ use Rattle.commands.specs.Header.{dataShaped}
 use Rattle.begins.specs.declared.Lengths.{Lengths}
 use Rattle.commands.specs.Block.{zeroWords, sumGood, paddingGood}
 use Rattle.sessions.specs.Session.{announced, accepted}
-use Rattle.errors.specs.Errors.{Kind, kind, flash-begin, flash-data, flash-end, memory-begin, memory-end, memory-data, sync, write-reg, read-reg, spi-attach, flash-digest, unknown, plainChecks, endChecks, dataChecks, checks}
+use Rattle.errors.specs.Errors.{Kind, kind, flash-begin, flash-data, flash-end, memory-begin, memory-end, memory-data, sync, write-reg, read-reg, spi-attach, flash-digest, unknown, plainChecks, attachChecks, endChecks, dataChecks, checks}
 use Rattle.sessions.specs.declared.Session.{Session}
 
 -- a command's kind, with the number of those that the grammar and the answers speak of
@@ -51,7 +51,7 @@ is c = go _ _ _ _ (eqb c 6) (eqb c 7) (eqb c 8) (eqb c 9) _ (eqb c 13) _ refl re
     go false false false false false false false false false false false p q r s t u = is-unknown
 
 pub all-numbered : (l : Lengths) (s : Session) (k : Kind) (p : List ℕ) → numbered (checks l s k p) ≡ true
-unfolding checks plainChecks endChecks dataChecks
+unfolding checks plainChecks attachChecks endChecks dataChecks
 all-numbered l s flash-begin p = refl
 all-numbered l s flash-data p = refl
 all-numbered l s flash-end p = refl

@@ -6,14 +6,14 @@ use lib.Dec.{ltb, eqb}
 use Rattle.lists.specs.Checks.{Check, _orElse_, first}
 use Rattle.fields.specs.Places.{FIRST-WORD, SECOND-WORD}
 use Rattle.fields.specs.Words.{word}
-use Rattle.pins.specs.Pins.{attachGood}
+use Rattle.pins.specs.Pins.{attachRule, attachApart}
 use Rattle.commands.specs.Numbers.{FLASH-BEGIN, FLASH-DATA, FLASH-END, MEM-BEGIN, MEM-END, MEM-DATA, SYNC, WRITE-REG, READ-REG, SPI-ATTACH, SPI-FLASH-MD5}
 use Rattle.commands.specs.Header.{FOUR-WORDS, command, shaped, dataShaped}
 use Rattle.begins.specs.Begin.{beginOf, flashRule, memoryRule}
 use Rattle.commands.specs.Block.{zeroWords, sumGood, paddingGood}
 use Rattle.parameters.specs.Parameters.{flashEndRule, memoryEndRule, syncRule, registerRule, writeRule, digestRule}
 use Rattle.begins.specs.declared.Lengths.{Lengths}
-use Rattle.errors.specs.Numbers.{unknownCommand, wrongSize, noSession, wrongBlockSize, badParameter, allAccepted, outOfSequence, wrongChecksum, badPadding, blocksMissing}
+use Rattle.errors.specs.Numbers.{unknownCommand, wrongSize, noSession, wrongBlockSize, badParameter, equalPins, allAccepted, outOfSequence, wrongChecksum, badPadding, blocksMissing}
 use Rattle.sessions.specs.Session.{flashOpen, memoryOpen, announced, accepted}
 use Rattle.sessions.specs.declared.Session.{Session}
 
@@ -56,6 +56,14 @@ endChecks isShaped isOpen isRuled s =
     ∷ eqb (accepted s) (announced s .count) orElse blocksMissing
     ∷ []
 
+-- SPI_ATTACH: its shape, its word's rule, and whether two fields are equal
+unfoldable pub attachChecks : Bool → ℕ → List Check
+attachChecks isShaped w =
+    isShaped orElse wrongSize
+    ∷ attachRule w orElse badParameter
+    ∷ attachApart w orElse equalPins
+    ∷ []
+
 -- any other command: its shape and its parameters
 unfoldable pub plainChecks : Bool → Bool → List Check
 plainChecks isShaped isRuled = isShaped orElse wrongSize ∷ isRuled orElse badParameter ∷ []
@@ -70,7 +78,7 @@ checks l s memory-data p = dataChecks (memoryOpen s) s p
 checks l s sync p = plainChecks (shaped 36 p) (syncRule p)
 checks l s write-reg p = plainChecks (shaped FOUR-WORDS p) (writeRule l p)
 checks l s read-reg p = plainChecks (shaped 4 p) (registerRule l (word p FIRST-WORD))
-checks l s spi-attach p = plainChecks (shaped 4 p) (attachGood (word p FIRST-WORD))
+checks l s spi-attach p = attachChecks (shaped 4 p) (word p FIRST-WORD)
 checks l s flash-digest p = plainChecks (shaped FOUR-WORDS p) (digestRule l p)
 checks l s unknown p = false orElse unknownCommand ∷ []
 

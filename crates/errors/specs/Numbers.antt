@@ -21,6 +21,10 @@ wrongBlockSize = 0xC2
 abbrev pub badParameter : ℕ
 badParameter = 0xC5
 
+-- request Seven: "A pin word with two equal fields"; "0xC7 for the command, after the two checks under 0xC5"
+abbrev pub equalPins : ℕ
+equalPins = 0xC7
+
 -- "data, and all blocks are accepted already"
 abbrev pub allAccepted : ℕ
 allAccepted = 0xC9

@@ -22,9 +22,9 @@ use sessions::flash_open;
 use sessions::memory_open;
 ghost use mathlib.Core.Path.{_≡_};
 ghost use Rattle.lists.specs.Checks.{first};
-ghost use Rattle.errors.specs.Errors.{plainChecks, dataChecks, endChecks, errorOf};
+ghost use Rattle.errors.specs.Errors.{plainChecks, attachChecks, dataChecks, endChecks, errorOf};
 
-// The error bytes, in the order of document 01's table.
+// The error bytes, in the order of document 01's table, with that of request Seven behind 0xC5.
 const UNKNOWN_COMMAND: u8 = 0xFF;
 
 const WRONG_SIZE: u8 = 0xC0;
@@ -34,6 +34,8 @@ const NO_SESSION: u8 = 0xC6;
 const WRONG_BLOCK_SIZE: u8 = 0xC2;
 
 const BAD_PARAMETER: u8 = 0xC5;
+
+const EQUAL_PINS: u8 = 0xC7;
 
 const ALL_ACCEPTED: u8 = 0xC9;
 
@@ -50,6 +52,21 @@ fn plain_error(shaped: bool, ruled: bool) -> u8
     ensures { λ r. ⌜ r ≡ first (plainChecks shaped ruled) ⌝ }
 {
     check(shaped, WRONG_SIZE, check(ruled, BAD_PARAMETER, 0))
+}
+
+// SPI_ATTACH: its shape, its word's rule, and whether two lines have the same pin.
+fn attach_error(shaped: bool, word: u32) -> u8
+    ensures { λ r. ⌜ r ≡ first (attachChecks shaped word) ⌝ }
+{
+    check(
+        shaped,
+        WRONG_SIZE,
+        check(
+            pins::attach_ruled(word),
+            BAD_PARAMETER,
+            check(pins::attach_apart(word), EQUAL_PINS, 0),
+        ),
+    )
 }
 
 // A data command, where a session of its kind is open or not.
@@ -146,9 +163,9 @@ pub fn error_of(lengths: Lengths, session: Session, packet: &[u8]) -> u8
             commands::shape_good(packet, 4),
             parameters::register_good(lengths, fields::word_at(packet, FIRST_WORD)),
         ),
-        SPI_ATTACH => plain_error(
+        SPI_ATTACH => attach_error(
             commands::shape_good(packet, 4),
-            pins::attach_good(fields::word_at(packet, FIRST_WORD)),
+            fields::word_at(packet, FIRST_WORD),
         ),
         SPI_FLASH_MD5 => plain_error(
             commands::shape_good(packet, FOUR_WORDS),

@@ -18,7 +18,7 @@ use Rattle.begins.proofs.Sectors.{reaches, round-mono, round-le}
 use Rattle.commands.specs.Header.{command}
 use Rattle.commands.specs.Block.{payload}
 use Rattle.sessions.specs.Session.{flashOpen, memoryOpen, announced, accepted, advanced, sessionGood}
-use Rattle.errors.specs.Errors.{Kind, kind, flash-begin, flash-data, flash-end, memory-begin, memory-end, memory-data, sync, write-reg, read-reg, spi-attach, flash-digest, unknown, plainChecks, checks}
+use Rattle.errors.specs.Errors.{Kind, kind, flash-begin, flash-data, flash-end, memory-begin, memory-end, memory-data, sync, write-reg, read-reg, spi-attach, flash-digest, unknown, plainChecks, attachChecks, checks}
 use Rattle.sessions.specs.declared.Session.{Session}
 use Rattle.sessions.specs.declared.Session.the-variants.{Closed, Flash, Memory}
 use Rattle.errors.proofs.Checks.{data-passed}
@@ -75,7 +75,7 @@ module _ (c : Core) (p : List ℕ) (good : sessionGood (lengths c) (c .session) 
       record { same-lengths = rw n; session = rw n (advanced-good (lengths c) (c .session) good (d .more)); attach = λ a. a }
 
   effect-keeps : (k : Kind) → Passed (checks (lengths c) (c .session) k p) → Keeps c (effect k c p .core)
-  unfolding effect checks plainChecks sessionGood registerWritten
+  unfolding effect checks plainChecks attachChecks attachGood sessionGood registerWritten
   effect-keeps flash-begin t =
       record { same-lengths = refl; session = rw (t .1 .0) (le-leb 0 (beginOf p .count) (omega arith)); attach = λ a. a }
   effect-keeps flash-data t = flash-data-keeps t
@@ -87,7 +87,7 @@ module _ (c : Core) (p : List ℕ) (good : sessionGood (lengths c) (c .session) 
   effect-keeps sync t = record { same-lengths = refl; session = good; attach = λ a. a }
   effect-keeps write-reg t = record { same-lengths = simp length-set; session = simp length-set good; attach = λ a. a }
   effect-keeps read-reg t = record { same-lengths = refl; session = good; attach = λ a. a }
-  effect-keeps spi-attach t = record { same-lengths = refl; session = good; attach = λ _. t .1 .0 }
+  effect-keeps spi-attach t = record { same-lengths = refl; session = good; attach = λ _. rw (t .1 .0, t .1 .1 .0) }
   effect-keeps flash-digest t = record { same-lengths = refl; session = good; attach = λ a. a }
   effect-keeps unknown t = record { same-lengths = refl; session = good; attach = λ a. a }
 

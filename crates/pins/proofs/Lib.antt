@@ -1,2 +1,4 @@
 pub mod Fields
+pub mod Packs
+pub mod Pairs
 pub mod Theorems

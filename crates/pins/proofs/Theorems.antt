@@ -1,44 +1,179 @@
--- The theorem of specs/Theorems.
-use Prim.Native.Nat.{ℕ, _^_, _≤_, _<_}
-use mathlib.Core.Path.{_≡_, refl}
-use mathlib.Core.Bool.{Bool, true, false, cond, or-true, and-eq-true-iff}
+-- The theorems of specs/Theorems on words and pins.
+use Prim.Native.Nat.{ℕ, zero, suc, _^_, _≤_, _<_}
+use mathlib.Core.Path.{_≡_, refl, sym, ap, _∙_}
+use mathlib.Core.Bool.{true, false, not, _||_, or-true, and-eq-true-iff}
 use native.Mathlib.Omega.{arith}
-use borrow.Author.Tests.{lt-ltb, le-leb}
+use borrow.Author.Tests.{ltb-true, leb-true, lt-ltb, le-ltb, le-leb, ne-eqb, not-true}
+use lib.Dec.{ltb, leb}
 use Rattle.pins.specs.declared.Pins.{Pins}
-use Rattle.pins.specs.Pins.{refused, word, field, fieldsGood, attachGood, pinField, pinsGood, pinsWord, packingOf}
-use Rattle.pins.specs.Theorems.{Says, PackedSays}
-use Rattle.pins.proofs.Fields.{Small, fields-small}
+use Rattle.pins.specs.Pins.{field, fieldsOf, noPins, fieldsGood, twoEqual, attachRule, attachApart, attachGood}
+use Rattle.pins.specs.Packer.{pinField, pinsGood, pinsWord, pinsOf}
+use Rattle.pins.specs.Theorems.{Says, PackedSays, PackedIsTaken}
+use Rattle.pins.proofs.Fields.{word-back, Each, each-good, Small, fields-small, pin-back, field-back, said-good, same-pins}
+use Rattle.pins.proofs.Packs.{told, packs}
 
--- a word of 30 bits whose fields are at most 31 is taken
-pub fields-taken : (w : ℕ) → w < 2 ^ 30 → field w 4 ≤ 31 → field w 3 ≤ 31 → field w 2 ≤ 31 → field w 1 ≤ 31 → field w 0 ≤ 31 → attachGood w ≡ true
-unfolding attachGood fieldsGood
-fields-taken w h h₄ h₃ h₂ h₁ h₀ =
-    rw (lt-ltb w (2 ^ 30) h, le-leb _ 31 h₄, le-leb _ 31 h₃, le-leb _ 31 h₂, le-leb _ 31 h₁, le-leb _ 31 h₀, or-true, or-true)
+-- words 0 and 1 hold no pins, and any other word does
+no-pins-is : (w : ℕ) → noPins w ≡ not (ltb 1 w)
+unfolding noPins
+no-pins-is zero = refl
+no-pins-is (suc zero) = refl
+no-pins-is (suc (suc w)) = rw (lt-ltb 1 (suc (suc w)) (omega arith), ne-eqb (suc (suc w)) 0 (λ e. omega arith), ne-eqb (suc (suc w)) 1 (λ e. omega arith))
 
-says : (p : Pins) → Small p → Says (pinsWord p) p
-unfolding pinsWord
-says p s =
-    let e₄ : field (pinsWord p) 4 ≡ pinField (p .hd) = omega arith in
-    let e₃ : field (pinsWord p) 3 ≡ pinField (p .q) = omega arith in
-    let e₂ : field (pinsWord p) 2 ≡ pinField (p .d) = omega arith in
-    let e₁ : field (pinsWord p) 1 ≡ pinField (p .cs) = omega arith in
-    let e₀ : field (pinsWord p) 0 ≡ pinField (p .clk) = omega arith in
-    record {
-      taken = fields-taken (pinsWord p) (omega arith) (rw e₄ (omega arith)) (rw e₃ (omega arith)) (rw e₂ (omega arith)) (rw e₁ (omega arith)) (rw e₀ (omega arith));
-      hd = e₄;
-      q = e₃;
-      d = e₂;
-      cs = e₁;
-      clk = e₀;
-    }
+-- words 0 and 1 are taken
+pub named-taken : (w : ℕ) → w ≤ 1 → attachGood w ≡ true
+unfolding attachGood attachRule attachApart
+named-taken w h = rw (no-pins-is w, le-ltb 1 w h)
 
--- what makes a word has passed the test
-of-word : (t : Bool) (n w : ℕ) → cond t (word n) (refused 9) ≡ word w → (t ≡ true) × (n ≡ w)
-of-word true n w e = (refl, cc)
-of-word false n w e = (cc, cc)
+pub zero-taken : attachGood 0 ≡ true
+zero-taken = named-taken 0 (omega arith)
+
+-- the fields of pins, each at the name of its pin
+abbrev pinFields : Pins → Pins
+pinFields p = record { hd = pinField (p .hd); q = pinField (p .q); d = pinField (p .d); cs = pinField (p .cs); clk = pinField (p .clk) }
+
+-- two good pins are equal exactly where two fields are
+same-pairs : (p : Pins) → Each p → twoEqual (pinFields p) ≡ twoEqual p
+unfolding twoEqual
+same-pairs p g =
+    rw (
+      same-pins _ _ (g .hd) (g .q),
+      same-pins _ _ (g .hd) (g .d),
+      same-pins _ _ (g .hd) (g .cs),
+      same-pins _ _ (g .hd) (g .clk),
+      same-pins _ _ (g .q) (g .d),
+      same-pins _ _ (g .q) (g .cs),
+      same-pins _ _ (g .q) (g .clk),
+      same-pins _ _ (g .d) (g .cs),
+      same-pins _ _ (g .d) (g .clk),
+      same-pins _ _ (g .cs) (g .clk),
+    )
+
+-- the word of good pins
+module _ (p : Pins) (good : pinsGood p ≡ true) where
+  small : Small p
+  small = fields-small (each-good p good)
+
+  -- its fields are those of the pins
+  fields-back : fieldsOf (pinsWord p) ≡ pinFields p
+  unfolding pinsWord
+  fields-back =
+      let s = small in
+      let e₄ : field (pinsWord p) 4 ≡ pinField (p .hd) = omega arith in
+      let e₃ : field (pinsWord p) 3 ≡ pinField (p .q) = omega arith in
+      let e₂ : field (pinsWord p) 2 ≡ pinField (p .d) = omega arith in
+      let e₁ : field (pinsWord p) 1 ≡ pinField (p .cs) = omega arith in
+      let e₀ : field (pinsWord p) 0 ≡ pinField (p .clk) = omega arith in
+      rw (e₄, e₃, e₂, e₁, e₀)
+
+  word-below : pinsWord p < 2 ^ 30
+  unfolding pinsWord
+  word-below = let s = small in omega arith
+
+  pub word-ruled : attachRule (pinsWord p) ≡ true
+  unfolding attachRule fieldsGood
+  word-ruled =
+      let s = small in
+      rw (
+        lt-ltb (pinsWord p) (2 ^ 30) word-below,
+        ap (λ (x : Pins). x .hd) fields-back,
+        ap (λ (x : Pins). x .q) fields-back,
+        ap (λ (x : Pins). x .d) fields-back,
+        ap (λ (x : Pins). x .cs) fields-back,
+        ap (λ (x : Pins). x .clk) fields-back,
+        le-leb (pinField (p .hd)) 31 (omega arith),
+        le-leb (pinField (p .q)) 31 (omega arith),
+        le-leb (pinField (p .d)) 31 (omega arith),
+        le-leb (pinField (p .cs)) 31 (omega arith),
+        le-leb (pinField (p .clk)) 31 (omega arith),
+        or-true,
+      )
+
+  pub word-apart : attachApart (pinsWord p) ≡ (not (ltb 1 (pinsWord p)) || not (twoEqual p))
+  unfolding attachApart
+  word-apart = rw (no-pins-is (pinsWord p), fields-back, same-pairs p (each-good p good))
+
+  says : twoEqual p ≡ false → Says (pinsWord p) p
+  unfolding attachGood
+  says apart =
+      record {
+        taken = rw (word-ruled, word-apart, apart, or-true);
+        hd = ap (λ (x : Pins). x .hd) fields-back;
+        q = ap (λ (x : Pins). x .q) fields-back;
+        d = ap (λ (x : Pins). x .d) fields-back;
+        cs = ap (λ (x : Pins). x .cs) fields-back;
+        clk = ap (λ (x : Pins). x .clk) fields-back;
+      }
 
 pub packed-says : PackedSays
-unfolding packingOf
 packed-says p w e =
-    let o = of-word _ (pinsWord p) w e in
-    rw (← (o .1)) (says p (fields-small p (and-eq-true-iff (pinsGood p) _ .0 (o .0) .0)))
+    let t = told p w e in
+    rw (← (t .is)) (says p (t .good) (t .apart))
+
+-- what SPI_ATTACH asks of a word that holds pins
+record Fits (w : ℕ) : Type 0 where
+  below : w < 2 ^ 30
+  hd : field w 4 ≤ 31
+  q : field w 3 ≤ 31
+  d : field w 2 ≤ 31
+  cs : field w 1 ≤ 31
+  clk : field w 0 ≤ 31
+  apart : twoEqual (fieldsOf w) ≡ false
+
+taken-fits : (w : ℕ) → 1 < w → attachGood w ≡ true → Fits w
+unfolding attachGood attachRule attachApart fieldsGood
+taken-fits w h t =
+    let n : noPins w ≡ false = rw (no-pins-is w, lt-ltb 1 w h) in
+    let a = and-eq-true-iff (noPins w || fieldsGood w) (noPins w || not (twoEqual (fieldsOf w))) .0 t in
+    let r : fieldsGood w ≡ true = rw n at (a .0) in
+    let s : not (twoEqual (fieldsOf w)) ≡ true = rw n at (a .1) in
+    let h₅ = and-eq-true-iff (ltb w (2 ^ 30)) _ .0 r in
+    let h₄ = and-eq-true-iff (leb (field w 4) 31) _ .0 (h₅ .1) in
+    let h₃ = and-eq-true-iff (leb (field w 3) 31) _ .0 (h₄ .1) in
+    let h₂ = and-eq-true-iff (leb (field w 2) 31) _ .0 (h₃ .1) in
+    let h₁ = and-eq-true-iff (leb (field w 1) 31) _ .0 (h₂ .1) in
+    record {
+      below = ltb-true _ _ (h₅ .0);
+      hd = leb-true _ _ (h₄ .0);
+      q = leb-true _ _ (h₃ .0);
+      d = leb-true _ _ (h₂ .0);
+      cs = leb-true _ _ (h₁ .0);
+      clk = leb-true _ _ (h₁ .1);
+      apart = not-true _ s;
+    }
+
+-- the pins that such a word says
+module _ (w : ℕ) (f : Fits w) where
+  said : Each (pinsOf w)
+  said =
+      record {
+        hd = said-good _ (f .hd);
+        q = said-good _ (f .q);
+        d = said-good _ (f .d);
+        cs = said-good _ (f .cs);
+        clk = said-good _ (f .clk);
+      }
+
+  said-pins-good : pinsGood (pinsOf w) ≡ true
+  unfolding pinsGood
+  said-pins-good = rw (said .hd, said .q, said .d, said .cs, said .clk)
+
+  fields-said : pinFields (pinsOf w) ≡ fieldsOf w
+  fields-said = rw (field-back (field w 4), field-back (field w 3), field-back (field w 2), field-back (field w 1), field-back (field w 0))
+
+  word-said : w ≡ pinsWord (pinsOf w)
+  unfolding pinsWord
+  word-said = rw (field-back (field w 4), field-back (field w 3), field-back (field w 2), field-back (field w 1), field-back (field w 0)) (word-back w (f .below))
+
+  apart-said : twoEqual (pinsOf w) ≡ false
+  apart-said = sym (same-pairs (pinsOf w) said) ∙ ap twoEqual fields-said ∙ f .apart
+
+pub packed-is-taken : PackedIsTaken
+packed-is-taken =
+    record {
+      packed-is-taken = λ p w e. (rw (told p w e .is) at (told p w e .above), packed-says p w e .taken);
+      taken-is-packed = λ w h t. let f = taken-fits w h t in sym (packs (pinsOf w) w (said-pins-good w f) (word-said w f) h (apart-said w f));
+      from-one-choice = λ p w e.
+          let s = packed-says p w e in
+          let g = each-good p (told p w e .good) in
+          rw (s .hd, s .q, s .d, s .cs, s .clk, pin-back (p .hd) (g .hd), pin-back (p .q) (g .q), pin-back (p .d) (g .d), pin-back (p .cs) (g .cs), pin-back (p .clk) (g .clk));
+    }

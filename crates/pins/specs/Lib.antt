@@ -1,2 +1,3 @@
 pub mod Pins
+pub mod Packer
 pub mod Theorems

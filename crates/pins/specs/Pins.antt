@@ -1,10 +1,8 @@
 -- The word of SPI_ATTACH: "0 default, 1 HSPI, any other word holds pins HD, Q, D, CS, CLK as five six-bit fields in 30 bits, highest first."
-use mathlib.Core.Bool.{Bool, cond, _&&_, _||_}
-use Prim.Native.Nat.{ℕ, _+_, _-_, _*_, _/_, _%_, _^_}
+use mathlib.Core.Bool.{Bool, not, _&&_, _||_}
+use Prim.Native.Nat.{ℕ, _+_, _*_, _/_, _%_, _^_}
 use lib.Dec.{leb, ltb, eqb}
 use Rattle.pins.specs.declared.Pins.{Pins}
-use Rattle.pins.specs.declared.Packed.{Packed}
-use Rattle.pins.specs.declared.Packed.the-variants.{Word, Refused}
 
 -- five six-bit fields, highest first
 abbrev pub packed : ℕ → ℕ → ℕ → ℕ → ℕ → ℕ
@@ -14,40 +12,42 @@ packed hd q d cs clk = (((hd * 64 + q) * 64 + d) * 64 + cs) * 64 + clk
 abbrev pub field : ℕ → ℕ → ℕ
 field word i = word / 64 ^ i % 64
 
+-- the five fields, each at the name of the pin that it says
+abbrev pub fieldsOf : ℕ → Pins
+fieldsOf w = record { hd = field w 4; q = field w 3; d = field w 2; cs = field w 1; clk = field w 0 }
+
+-- "0 default, 1 HSPI": the words that hold no pins
+unfoldable pub noPins : ℕ → Bool
+noPins w = eqb w 0 || eqb w 1
+
 -- "Top two bits 0, each field at most 31."
 unfoldable pub fieldsGood : ℕ → Bool
 fieldsGood w =
     ltb w (2 ^ 30)
     && (leb (field w 4) 31 && (leb (field w 3) 31 && (leb (field w 2) 31 && (leb (field w 1) 31 && leb (field w 0) 31))))
 
+-- "two equal" (request Seven) of five numbers: their ten pairs. That these are all, EveryPair says.
+unfoldable pub twoEqual : Pins → Bool
+twoEqual p =
+    eqb (p .hd) (p .q)
+    || eqb (p .hd) (p .d)
+    || eqb (p .hd) (p .cs)
+    || eqb (p .hd) (p .clk)
+    || eqb (p .q) (p .d)
+    || eqb (p .q) (p .cs)
+    || eqb (p .q) (p .clk)
+    || eqb (p .d) (p .cs)
+    || eqb (p .d) (p .clk)
+    || eqb (p .cs) (p .clk)
+
+-- "the two checks under 0xC5": the rule of SPI_ATTACH's word
+unfoldable pub attachRule : ℕ → Bool
+attachRule w = noPins w || fieldsGood w
+
+-- "A pin word with two equal fields is to be refused; words 0 and 1 stay good" (request Seven): the check under 0xC7
+unfoldable pub attachApart : ℕ → Bool
+attachApart w = noPins w || not (twoEqual (fieldsOf w))
+
 -- a word that SPI_ATTACH takes
 unfoldable pub attachGood : ℕ → Bool
-attachGood w = eqb w 0 || (eqb w 1 || fieldsGood w)
-
--- "The packer of pins refuses pins 30, 31 and above 33": a pin that a field can say
-unfoldable pub pinGood : ℕ → Bool
-pinGood p = ltb p 30 || (eqb p 32 || eqb p 33)
-
--- "Fields 30 and 31 mean pins 32 and 33": the field of a pin
-unfoldable pub pinField : ℕ → ℕ
-pinField p = cond (ltb p 30) p (p - 2)
-
-unfoldable pub pinsGood : Pins → Bool
-pinsGood p =
-    pinGood (p .hd) && (pinGood (p .q) && (pinGood (p .d) && (pinGood (p .cs) && pinGood (p .clk))))
-
-unfoldable pub pinsWord : Pins → ℕ
-pinsWord p = packed (pinField (p .hd)) (pinField (p .q)) (pinField (p .d)) (pinField (p .cs)) (pinField (p .clk))
-
--- what the packer tells: a refusal by its number, or the word
-pub data Packing : Type 0 where
-  refused : ℕ → Packing
-  word : ℕ → Packing
-
-abbrev pub packing : Packed → Packing
-packing (Refused n) = refused n
-packing (Word w) = word w
-
--- "and pins whose word would be 0 or 1 (number 9 and no word)"
-unfoldable pub packingOf : Pins → Packing
-packingOf p = cond (pinsGood p && ltb 1 (pinsWord p)) (word (pinsWord p)) (refused 9)
+attachGood w = attachRule w && attachApart w

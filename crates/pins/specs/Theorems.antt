@@ -1,9 +1,27 @@
--- What follows from the definitions: SPI_ATTACH takes every word that the packer makes.
-use Prim.Native.Nat.{ℕ}
+-- What follows from the definitions: the ten pairs are every pair, and the packer's words are those that SPI_ATTACH takes.
+use Prim.Native.Nat.{ℕ, _<_}
 use mathlib.Core.Path.{_≡_}
+use mathlib.Core.Logic.{_↔_}
 use mathlib.Core.Bool.{true}
 use Rattle.pins.specs.declared.Pins.{Pins}
-use Rattle.pins.specs.Pins.{field, attachGood, pinField, packingOf, word}
+use Rattle.pins.specs.Pins.{field, twoEqual, attachGood}
+use Rattle.pins.specs.Packer.{pinField, packingOf, word, pinsOf}
+
+-- the lines of an SPI flash
+pub data Signal : Type 0 where
+  HD Q D CS CLK : Signal
+
+-- what stands at a line's name
+abbrev pub at : Pins → Signal → ℕ
+at p HD = p .hd
+at p Q = p .q
+at p D = p .d
+at p CS = p .cs
+at p CLK = p .clk
+
+-- two of five numbers are equal exactly where two different lines have the same: the ten pairs are every pair
+abbrev pub EveryPair : Type 0
+EveryPair = (p : Pins) → (twoEqual p ≡ true) ↔ ((a : Signal) × ((b : Signal) × ((a ≡ b → ⊥) × (at p a ≡ at p b))))
 
 -- SPI_ATTACH takes the word, and its fields, highest first, are those of the pins
 pub record Says (w : ℕ) (p : Pins) : Type 0 where
@@ -17,3 +35,9 @@ pub record Says (w : ℕ) (p : Pins) : Type 0 where
 -- a word that the packer makes says the pins
 abbrev pub PackedSays : Type 0
 PackedSays = (p : Pins) (w : ℕ) → packingOf p ≡ word w → Says w p
+
+-- The packer's words are exactly the words other than 0 and 1 that SPI_ATTACH takes, each from one choice of pins only: to pack and to take apart are inverse.
+pub record PackedIsTaken : Type 0 where
+  pub packed-is-taken : (p : Pins) (w : ℕ) → packingOf p ≡ word w → (1 < w) × (attachGood w ≡ true)
+  pub taken-is-packed : (w : ℕ) → 1 < w → attachGood w ≡ true → packingOf (pinsOf w) ≡ word w
+  pub from-one-choice : (p : Pins) (w : ℕ) → packingOf p ≡ word w → p ≡ pinsOf w

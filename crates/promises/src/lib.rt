@@ -5,8 +5,9 @@ ghost use Rattle.packets.specs.Theorems.{RoundTrip, FrameComesBack, CutOfFrame,
 ghost use Rattle.packets.specs.Theorems.{FirstDecides, DroppedAsBefore};
 ghost use Rattle.runs.specs.Theorems.{TakesMost, TakesSome, GoesOn, StaysClosed, RunComesBack};
 ghost use Rattle.fields.specs.Theorems.{WordBack};
-ghost use Rattle.pins.specs.Theorems.{PackedSays};
+ghost use Rattle.pins.specs.Theorems.{PackedSays, EveryPair, PackedIsTaken};
 ghost use Rattle.parameters.specs.Theorems.{RegisterHasPlace};
+ghost use Rattle.errors.specs.Attach.{PackerAgrees};
 ghost use Rattle.begins.specs.Count.{CountIsDividedUp, NoneOfBlock0};
 ghost use Rattle.digest.specs.Suite.{Rfc1321Suite};
 ghost use Rattle.digest.specs.Theorems.{PaddedAsSaid, SixteenBytes};
@@ -44,6 +45,7 @@ ghost use Rattle.link_claims.specs.Delivers.{Delivers};
 ghost use Rattle.link_claims.specs.Worked.{WorkedProbe};
 ghost use Rattle.cases.specs.Cases.{Starred};
 ghost use Rattle.cases.specs.Digests.{DigestCases};
+ghost use Rattle.cases.specs.Pins.{PinCases};
 ghost use Rattle.cases.specs.Example.{Example};
 
 // ---- Demand 1: a bad call and a bad command change nothing.
@@ -130,6 +132,22 @@ pub fn word_back()
 // SPI_ATTACH takes every word that the packer of pins makes, and its fields say those pins.
 pub fn packed_says()
     ensures { λ r. ⌜ PackedSays ⌝ }
+{}
+
+// Two of five pins, or fields, are equal exactly where two different lines have the same: the ten pairs are every pair.
+pub fn every_pair()
+    ensures { λ r. ⌜ EveryPair ⌝ }
+{}
+
+// The packer's words are exactly the words other than 0 and 1 that SPI_ATTACH takes, each from one choice of pins only.
+pub fn packed_is_taken()
+    ensures { λ r. ⌜ PackedIsTaken ⌝ }
+{}
+
+// The loader and the packer agree: SPI_ATTACH accepts a word from 2 on exactly where the packer makes it, and gives 0xC7 to the word of
+// pins exactly where the packer gives them 17.
+pub fn packer_agrees()
+    ensures { λ r. ⌜ PackerAgrees ⌝ }
 {}
 
 // The test of a BEGIN's block count, n*b from S up to less than S + b, says n = S/b rounded up.
@@ -422,6 +440,12 @@ pub fn starred()
 // Cases of the digest command: of "abc", of no bytes at the end of flash, and with words that break its rule.
 pub fn digest_cases()
     ensures { λ r. ⌜ DigestCases ⌝ }
+{}
+
+// Cases of two lines on one pin: the packer gives 17, SPI_ATTACH 0xC7, a record that holds the word is refused with 5; 9 and 0xC5 come
+// first, and words 0 and 1 stay good.
+pub fn pin_cases()
+    ensures { λ r. ⌜ PinCases ⌝ }
 {}
 
 // The listing of the example's bytes, in whatever blocks they are handed over, is its heading and its two lines; a dropped packet behind

@@ -18,6 +18,7 @@ const TABLE: usize = 262144;
 // What an operation gives, at the front of a buffer; how many bytes it is.
 fn outcome(operation: u8, input: &[u8], got: &mut [u8]) -> usize {
     match operation {
+        names::PACK => plain::pack(input, got),
         names::FRAME => chip::frame(input, got),
         names::UNFRAME => chip::unframe(input, got),
         names::ANSWER | names::CLOSES | names::ERRORS | names::LINE => {

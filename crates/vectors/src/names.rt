@@ -4,8 +4,8 @@ use tables::part;
 use tables::past;
 
 // Each name has the number of its place here.
-const NAMES: [u8; 117] = *b"\
-    checksum\tcommand\tsize\tvalue\taddress\tmerge\tpack\t\
+const NAMES: [u8; 124] = *b"\
+    checksum\tcommand\trecord\tsize\tvalue\taddress\tmerge\tpack\t\
     frame\tunframe\tanswer\tcloses\terrors\tline\t\
     flash\terased\tcuts\tpacket\tload\t";
 
@@ -13,37 +13,39 @@ pub const CHECKSUM: u8 = 0;
 
 pub const COMMAND: u8 = 1;
 
-pub const SIZE: u8 = 2;
+pub const RECORD: u8 = 2;
 
-pub const VALUE: u8 = 3;
+pub const SIZE: u8 = 3;
 
-pub const ADDRESS: u8 = 4;
+pub const VALUE: u8 = 4;
 
-pub const MERGE: u8 = 5;
+pub const ADDRESS: u8 = 5;
 
-pub const PACK: u8 = 6;
+pub const MERGE: u8 = 6;
 
-pub const FRAME: u8 = 7;
+pub const PACK: u8 = 7;
 
-pub const UNFRAME: u8 = 8;
+pub const FRAME: u8 = 8;
 
-pub const ANSWER: u8 = 9;
+pub const UNFRAME: u8 = 9;
 
-pub const CLOSES: u8 = 10;
+pub const ANSWER: u8 = 10;
 
-pub const ERRORS: u8 = 11;
+pub const CLOSES: u8 = 11;
 
-pub const LINE: u8 = 12;
+pub const ERRORS: u8 = 12;
 
-pub const FLASH: u8 = 13;
+pub const LINE: u8 = 13;
 
-pub const ERASED: u8 = 14;
+pub const FLASH: u8 = 14;
 
-pub const CUTS: u8 = 15;
+pub const ERASED: u8 = 15;
 
-pub const PACKET: u8 = 16;
+pub const CUTS: u8 = 16;
 
-pub const LOAD: u8 = 17;
+pub const PACKET: u8 = 17;
+
+pub const LOAD: u8 = 18;
 
 // No operation has it.
 pub const UNKNOWN: u8 = 255;
@@ -53,7 +55,7 @@ pub fn number_of(name: &[u8]) -> u8 {
     let names = NAMES;
     let mut number: u8 = 0;
     let mut at: usize = 0;
-    while at < 117 {
+    while at < 124 {
         let next = past(&names, at, TAB);
         if lists::same(name, part(&names, at, next)) {
             return number;

@@ -1,24 +1,28 @@
 // The operations on bytes alone. What they give stands at the front of a buffer, and they say how many bytes it is.
+use crate::chip::FLASH_LENGTH;
+use crate::chip::WORDS;
 use crate::names;
+use answers::LONGEST_ANSWER;
 use fields::FIRST_WORD;
 use fields::word_at;
+use framing::LONGEST;
+use loader_state::Loader;
 use pins::Packed;
 use pins::Pins;
+use sessions::Session;
 use tables::put_byte;
 use tables::put_word;
 
-// What a refusal of pins is shown as, which no pins give.
-const REFUSED: u32 = 0xEEEEEEEE;
-
-fn word_of(packed: Packed) -> u32 {
+// A word that was packed, or the number that its pins are refused with.
+fn told(packed: Packed, got: &mut [u8]) -> usize {
     match packed {
-        Packed::Word(word) => word,
-        Packed::Refused(_) => REFUSED,
+        Packed::Word(word) => put_word(word, got),
+        Packed::Refused(number) => put_byte(number, got),
     }
 }
 
 // The word of five pins: HD, Q, D, CS, CLK.
-fn pack(bytes: &[u8]) -> u32 {
+pub fn pack(bytes: &[u8], got: &mut [u8]) -> usize {
     let pins = Pins {
         hd: word_at(bytes, 0),
         q: word_at(bytes, 4),
@@ -26,7 +30,17 @@ fn pack(bytes: &[u8]) -> u32 {
         cs: word_at(bytes, 12),
         clk: word_at(bytes, 16),
     };
-    word_of(pins::pack(pins))
+    told(pins::pack(pins), got)
+}
+
+// The number that a call is refused with whose record holds an attach word.
+fn record(attach: u32) -> u8 {
+    let loader = Loader {
+        line: unframing::new(),
+        session: Session::Closed,
+        attach,
+    };
+    loader_state::refusal_of(loader, LONGEST, LONGEST_ANSWER, FLASH_LENGTH, WORDS)
 }
 
 // The merge of three words: the old one, the value, the mask.
@@ -42,14 +56,14 @@ fn value_of(operation: u8, input: &[u8]) -> u32 {
         names::SIZE => fields::half_at(input, 2),
         names::VALUE => word_at(input, 4),
         names::ADDRESS => word_at(input, FIRST_WORD),
-        names::MERGE => merge(input),
-        _ => pack(input),
+        names::RECORD => record(word_at(input, 0)) as u32,
+        _ => merge(input),
     }
 }
 
 pub fn on_bytes(operation: u8, input: &[u8], got: &mut [u8]) -> usize {
     let value = value_of(operation, input);
-    if operation <= names::COMMAND {
+    if operation <= names::RECORD {
         return put_byte((value % 256) as u8, got);
     }
     put_word(value, got)

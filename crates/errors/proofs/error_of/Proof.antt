@@ -104,11 +104,8 @@ shape-good-requires-8 c κs = search needs
 word-at-requires-2 : tie.Need-word-at-requires-2
 word-at-requires-2 c κs = search needs
 
-attach-good-requires : tie.Need-attach-good-requires
-attach-good-requires c κs = search needs
-
-plain-error-requires-6 : tie.Need-plain-error-requires-6
-plain-error-requires-6 c κs = search needs
+attach-error-requires : tie.Need-attach-error-requires
+attach-error-requires c κs = search needs
 
 shape-good-requires-9 : tie.Need-shape-good-requires-9
 shape-good-requires-9 c κs = search needs
@@ -116,8 +113,8 @@ shape-good-requires-9 c κs = search needs
 digest-good-requires : tie.Need-digest-good-requires
 digest-good-requires c κs = search needs
 
-plain-error-requires-7 : tie.Need-plain-error-requires-7
-plain-error-requires-7 c κs = search needs
+plain-error-requires-6 : tie.Need-plain-error-requires-6
+plain-error-requires-6 c κs = search needs
 
 returns : tie.Need-returns
 unfolding checks kind
@@ -157,11 +154,11 @@ returns-9 c = error-at _ _ _ 0x0A _ _ (c .before .before .before .before .before
 
 returns-10 : tie.Need-returns-10
 unfolding checks kind
-returns-10 c = error-at _ _ _ 0x0D _ _ (c .before .before .before .before .before .command-of .ensures) (c .before .before .before .before .match .keys10) (rw (c .plain-error6 .ensures, c .before .attach-good .ensures, c .before .before .word-at2 .ensures, c .before .before .before .shape-good8 .ensures) refl)
+returns-10 c = error-at _ _ _ 0x0D _ _ (c .before .before .before .before .command-of .ensures) (c .before .before .before .match .keys10) (rw (c .attach-error .ensures, c .before .word-at2 .ensures, c .before .before .shape-good8 .ensures) refl)
 
 returns-11 : tie.Need-returns-11
 unfolding checks kind
-returns-11 c = error-at _ _ _ 0x13 _ _ (c .before .before .before .before .command-of .ensures) (c .before .before .before .match .keys11) (rw (c .plain-error7 .ensures, c .before .digest-good .ensures, c .before .before .shape-good9 .ensures) refl)
+returns-11 c = error-at _ _ _ 0x13 _ _ (c .before .before .before .before .command-of .ensures) (c .before .before .before .match .keys11) (rw (c .plain-error6 .ensures, c .before .digest-good .ensures, c .before .before .shape-good9 .ensures) refl)
 
 returns-12 : tie.Need-returns-12
 returns-12 c = rw (error-none _ _ _ _ (c .before .command-of .ensures) (kind-none _ (c .match .rest))) refl
@@ -203,11 +200,10 @@ error-of-spec =
     plain-error-requires-5
     shape-good-requires-8
     word-at-requires-2
-    attach-good-requires
-    plain-error-requires-6
+    attach-error-requires
     shape-good-requires-9
     digest-good-requires
-    plain-error-requires-7
+    plain-error-requires-6
     returns
     returns-2
     returns-3

@@ -1,17 +1,15 @@
--- A shift and a mask of six bits take one field.
-use Prim.Native.Nat.{_/_, _^_}
 use mathlib.Core.Path.{refl}
-use native.Mathlib.Nat.{div-one}
-use lib.Bits.{and-mask}
+use borrow.Author.Needs.{needs}
 use Rattle.pins.specs.Pins.{fieldsGood}
 use Rattle.pins.proofs.fields_good.Statement.{statement}
 use Rattle.pins.proofs.fields_good.Tie as tie
 
+fields-of-requires : tie.Need-fields-of-requires
+fields-of-requires c κs = search needs
+
 returns : tie.Need-returns
 unfolding fieldsGood
-returns c =
-    let w = c .args .word in
-    rw (and-mask (w / 2 ^ 24) 6, and-mask (w / 2 ^ 18) 6, and-mask (w / 2 ^ 12) 6, and-mask (w / 2 ^ 6) 6, and-mask w 6, div-one w) refl
+returns c = rw (c .before .before .before .before .before .fields-of .ensures) refl
 
 pub fields-good-spec : {M : Type 1} → statement M
-fields-good-spec = tie.close (tie.spec returns)
+fields-good-spec = tie.close (tie.spec fields-of-requires returns)

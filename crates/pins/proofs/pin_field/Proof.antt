@@ -1,7 +1,7 @@
 use mathlib.Core.Path.{refl}
 use borrow.Author.Needs.{needs}
 use borrow.Author.Tests.{lt-ltb, le-ltb}
-use Rattle.pins.specs.Pins.{pinField}
+use Rattle.pins.specs.Packer.{pinField}
 use Rattle.pins.proofs.pin_field.Statement.{statement}
 use Rattle.pins.proofs.pin_field.Tie as tie
 

@@ -1,5 +1,5 @@
 use mathlib.Core.Path.{refl}
-use Rattle.pins.specs.Pins.{pinGood}
+use Rattle.pins.specs.Packer.{pinGood}
 use Rattle.pins.proofs.pin_good.Statement.{statement}
 use Rattle.pins.proofs.pin_good.Tie as tie
 

@@ -1,6 +1,6 @@
 use mathlib.Core.Path.{refl}
 use borrow.Author.Needs.{needs}
-use Rattle.pins.specs.Pins.{pinsGood}
+use Rattle.pins.specs.Packer.{pinsGood}
 use Rattle.pins.proofs.pins_good.Statement.{statement}
 use Rattle.pins.proofs.pins_good.Tie as tie
 

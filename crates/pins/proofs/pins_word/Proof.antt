@@ -2,8 +2,8 @@
 use Prim.Native.Nat.{ℕ, _<_}
 use native.Mathlib.Omega.{arith}
 use borrow.Author.Needs.{needs}
-use Rattle.pins.specs.Pins.{pinsWord}
-use Rattle.pins.proofs.Fields.{fields-small, packed-is}
+use Rattle.pins.specs.Packer.{pinsWord}
+use Rattle.pins.proofs.Fields.{each-good, fields-small, packed-is}
 use Rattle.pins.proofs.pins_word.Statement.{statement}
 use Rattle.pins.proofs.pins_word.Tie as tie
 
@@ -28,7 +28,7 @@ pin-field-requires-5 c κs = search needs
 returns : tie.Need-returns
 unfolding pinsWord
 returns c =
-    let s = fields-small (c .before .before .before .before .before .args .pins) (c .before .before .before .before .before .pre) in
+    let s = fields-small (each-good _ (c .before .before .before .before .before .pre)) in
     rw (c .pin-field5 .ensures, c .before .pin-field4 .ensures, c .before .before .pin-field3 .ensures, c .before .before .before .pin-field2 .ensures, c .before .before .before .before .pin-field .ensures)
     (packed-is _ _ _ _ _ (wider (s .hd)) (wider (s .q)) (wider (s .d)) (wider (s .cs)) (wider (s .clk)))
 

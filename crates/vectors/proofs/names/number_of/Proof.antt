@@ -8,10 +8,10 @@ use Rattle.vectors.proofs.names.number_of.Statement.{statement}
 use Rattle.vectors.proofs.names.number_of.Tie as tie
 
 abbrev Inv-loop : tie.InvT-loop
-Inv-loop name names number₀ at₀ number at = length names ≡ 117
+Inv-loop name names number₀ at₀ number at = length names ≡ 124
 
 abbrev μ-loop : tie.MeasureT-loop
-μ-loop name names number₀ at₀ number at = 117 - at
+μ-loop name names number₀ at₀ number at = 124 - at
 
 loop-holds : tie.Need-loop-holds Inv-loop μ-loop
 loop-holds c = refl
