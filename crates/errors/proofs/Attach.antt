@@ -10,7 +10,7 @@ use Rattle.lists.specs.Checks.{first}
 use Rattle.pins.specs.declared.Pins.{Pins}
 use Rattle.pins.specs.Pins.{twoEqual, attachRule, attachApart, attachGood}
 use Rattle.pins.specs.Packer as packer
-use Rattle.pins.proofs.Theorems.{packed-is-taken, named-taken, word-ruled, word-apart}
+use Rattle.pins.proofs.Theorems.{packed-is-taken, no-pins-taken, word-ruled, word-apart}
 use Rattle.begins.specs.declared.Lengths.{Lengths}
 use Rattle.sessions.specs.declared.Session.{Session}
 use Rattle.errors.specs.Errors.{kind, attachChecks, checks, errorOf}
@@ -62,7 +62,7 @@ module _ (l : Lengths) (s : Session) (packet : List ℕ) where
 pub packer-agrees : PackerAgrees
 packer-agrees =
     record {
-      no-pins = λ l s packet w a h. accepted-is-taken l s packet w a .1 (named-taken w h);
+      no-pins = λ l s packet w a h. accepted-is-taken l s packet w a .1 (no-pins-taken w h);
       accepted = λ l s packet w a h. accepted-is-packed l s packet w a h;
       refused-alike = λ l s packet p g a. both-refuse l s packet p g a;
     }

@@ -20,12 +20,12 @@ no-pins-is (suc zero) = refl
 no-pins-is (suc (suc w)) = rw (lt-ltb 1 (suc (suc w)) (omega arith), ne-eqb (suc (suc w)) 0 (λ e. omega arith), ne-eqb (suc (suc w)) 1 (λ e. omega arith))
 
 -- words 0 and 1 are taken
-pub named-taken : (w : ℕ) → w ≤ 1 → attachGood w ≡ true
+pub no-pins-taken : (w : ℕ) → w ≤ 1 → attachGood w ≡ true
 unfolding attachGood attachRule attachApart
-named-taken w h = rw (no-pins-is w, le-ltb 1 w h)
+no-pins-taken w h = rw (no-pins-is w, le-ltb 1 w h)
 
 pub zero-taken : attachGood 0 ≡ true
-zero-taken = named-taken 0 (omega arith)
+zero-taken = no-pins-taken 0 (omega arith)
 
 -- the fields of pins, each at the name of its pin
 abbrev pinFields : Pins → Pins
