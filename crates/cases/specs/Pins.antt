@@ -1,4 +1,4 @@
--- Worked cases of request Seven: two lines on one pin. Those of the loader are of a fresh one, with any buffers that refusals 1 to 4 let pass.
+-- Worked cases of request Seven: two lines on one pin. Those of the loader are of a fresh one, or of one that is fresh but for its attach word, with any buffers that refusals 1 to 4 let pass.
 use mathlib.Core.Path.{_≡_}
 use mathlib.Core.List.{List, [], _∷_}
 use Prim.Native.Nat.{ℕ}
@@ -21,14 +21,14 @@ abbrev pub holding : ℕ → Loader
 holding w = record { line = freshLoader .line; session = freshLoader .session; attach = w }
 
 pub record PinCases : Type 0 where
-  -- case 9's pins, but Q and D on pin 7: the drawing that the request tells of
+  -- case 9's pins, but Q and D on pin 7: such a drawing as the request tells of
   pub drawing-packed : packingOf (record { hd = 9; q = 7; d = 7; cs = 11; clk = 6 }) ≡ refused 17
   pub drawing-sent : (r : Lending) → sends r (framed (attachPacket 0x091C72C6)) ≡ attachAnswer 1 0xC7
   pub drawing-held : (n : BufferLengths) → first (bufferChecks n) ≡ 0 → refusal (holding 0x091C72C6) n ≡ 5
   -- case 9's own
   pub pins-sent : (r : Lending) → sends r (framed (attachPacket 0x091C82C6)) ≡ attachAnswer 0 0
   pub pins-held : (n : BufferLengths) → first (bufferChecks n) ≡ 0 → refusal (holding 0x091C82C6) n ≡ 0
-  -- HD and Q on pin 30, which no field says, and their word with field 32 for both: 9 and 0xC5 come first
+  -- HD and Q on pin 30, which no field says; and a word with field 32 for both: 9 and 0xC5 come first
   pub packed-9-first : packingOf (record { hd = 30; q = 30; d = 8; cs = 11; clk = 6 }) ≡ refused 9
   pub sent-c5-first : (r : Lending) → sends r (framed (attachPacket 0x208082C6)) ≡ attachAnswer 1 0xC5
   -- all lines on pin 0: the packer has no word for them, and SPI_ATTACH takes that word as the default

@@ -1,4 +1,4 @@
--- The errors of a read command, in the order of checks: document 01's table.
+-- The errors of a read command, in the order of checks: document 01's table, and 0xC7 of request Seven.
 use mathlib.Core.List.{List, [], _∷_}
 use mathlib.Core.Bool.{Bool, false, cond}
 use Prim.Native.Nat.{ℕ}

@@ -1,4 +1,4 @@
-// The error byte of a read packet: document 01's table, in its order.
+// The error byte of a read packet: document 01's table, in its order, and 0xC7 of request Seven.
 use begins::Lengths;
 use commands::FLASH_BEGIN;
 use commands::FLASH_DATA;

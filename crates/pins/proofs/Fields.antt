@@ -9,8 +9,8 @@ use lib.Pow.{pow-add, shl-lt, shl-exact}
 use lib.Bits.{bitOr, or-shifted}
 use borrow.Author.Tests.{ltb-true, ltb-false, eqb-true, eqb-false, le-ltb, eq-eqb, ne-eqb}
 use Rattle.pins.specs.declared.Pins.{Pins}
-use Rattle.pins.specs.Pins.{packed, field}
-use Rattle.pins.specs.Packer.{pinGood, pinField, fieldPin, pinsGood}
+use Rattle.pins.specs.Pins.{field}
+use Rattle.pins.specs.Packer.{packed, pinGood, pinField, fieldPin, pinsGood}
 
 -- `(a << (6 + k)) | (b << k)`
 or-field : (k a b : ℕ) → b < 64 → bitOr (a * 2 ^ (6 + k)) (b * 2 ^ k) ≡ (a * 64 + b) * 2 ^ k

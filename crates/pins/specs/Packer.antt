@@ -1,11 +1,11 @@
 -- The packer of pins: the word that says them, or a refusal's number.
 use mathlib.Core.Bool.{Bool, cond, _&&_, _||_}
-use Prim.Native.Nat.{ℕ, _+_, _-_}
+use Prim.Native.Nat.{ℕ, _+_, _-_, _*_}
 use lib.Dec.{ltb, eqb}
 use Rattle.pins.specs.declared.Pins.{Pins}
 use Rattle.pins.specs.declared.Packed.{Packed}
 use Rattle.pins.specs.declared.Packed.the-variants.{Word, Refused}
-use Rattle.pins.specs.Pins.{packed, field, twoEqual}
+use Rattle.pins.specs.Pins.{field, twoEqual}
 
 -- "The packer of pins refuses pins 30, 31 and above 33": a pin that a field can say
 unfoldable pub pinGood : ℕ → Bool
@@ -15,10 +15,16 @@ pinGood p = ltb p 30 || (eqb p 32 || eqb p 33)
 unfoldable pub pinField : ℕ → ℕ
 pinField p = cond (ltb p 30) p (p - 2)
 
+-- pins that fields can say
 unfoldable pub pinsGood : Pins → Bool
 pinsGood p =
     pinGood (p .hd) && (pinGood (p .q) && (pinGood (p .d) && (pinGood (p .cs) && pinGood (p .clk))))
 
+-- "five six-bit fields in 30 bits, highest first"
+abbrev pub packed : ℕ → ℕ → ℕ → ℕ → ℕ → ℕ
+packed hd q d cs clk = (((hd * 64 + q) * 64 + d) * 64 + cs) * 64 + clk
+
+-- the word of such pins
 unfoldable pub pinsWord : Pins → ℕ
 pinsWord p = packed (pinField (p .hd)) (pinField (p .q)) (pinField (p .d)) (pinField (p .cs)) (pinField (p .clk))
 

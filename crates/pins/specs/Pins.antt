@@ -1,14 +1,10 @@
 -- The word of SPI_ATTACH: "0 default, 1 HSPI, any other word holds pins HD, Q, D, CS, CLK as five six-bit fields in 30 bits, highest first."
 use mathlib.Core.Bool.{Bool, not, _&&_, _||_}
-use Prim.Native.Nat.{ℕ, _+_, _*_, _/_, _%_, _^_}
+use Prim.Native.Nat.{ℕ, _/_, _%_, _^_}
 use lib.Dec.{leb, ltb, eqb}
 use Rattle.pins.specs.declared.Pins.{Pins}
 
--- five six-bit fields, highest first
-abbrev pub packed : ℕ → ℕ → ℕ → ℕ → ℕ → ℕ
-packed hd q d cs clk = (((hd * 64 + q) * 64 + d) * 64 + cs) * 64 + clk
-
--- the field with i fields below it
+-- the six-bit field with i fields below it
 abbrev pub field : ℕ → ℕ → ℕ
 field word i = word / 64 ^ i % 64
 

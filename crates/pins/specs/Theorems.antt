@@ -1,4 +1,4 @@
--- What follows from the definitions: the ten pairs are every pair, and the packer's words are those that SPI_ATTACH takes.
+-- What follows from the definitions: the ten pairs are every pair, and the packer's words are those from 2 on that SPI_ATTACH takes.
 use Prim.Native.Nat.{ℕ, _<_}
 use mathlib.Core.Path.{_≡_}
 use mathlib.Core.Logic.{_↔_}

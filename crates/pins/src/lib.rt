@@ -121,7 +121,8 @@ fn pins_word(pins: Pins) -> u32
     (hd << 24) | (q << 18) | (d << 12) | (cs << 6) | clk
 }
 
-// The word that says the pins. Words 0 and 1 mean the default pins and HSPI, so no pins are packed to them. 17 comes after 9.
+// The word that says the pins. Words 0 and 1 mean the default pins and HSPI, so no pins are packed to them: 9, as for a
+// pin that no field can say. After it 17, where two lines have the same pin.
 pub fn pack(pins: Pins) -> Packed
     ensures { λ r. ⌜ packing r ≡ packingOf pins ⌝ }
 {

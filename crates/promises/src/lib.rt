@@ -145,7 +145,7 @@ pub fn packed_is_taken()
 {}
 
 // The loader and the packer agree: SPI_ATTACH accepts a word from 2 on exactly where the packer makes it, and gives 0xC7 to the word of
-// pins exactly where the packer gives them 17.
+// pins that fields can say exactly where the packer gives them 17.
 pub fn packer_agrees()
     ensures { λ r. ⌜ PackerAgrees ⌝ }
 {}

@@ -21,7 +21,7 @@ fn told(packed: Packed, got: &mut [u8]) -> usize {
     }
 }
 
-// The word of five pins: HD, Q, D, CS, CLK.
+// What the packer tells of five pins: HD, Q, D, CS, CLK.
 pub fn pack(bytes: &[u8], got: &mut [u8]) -> usize {
     let pins = Pins {
         hd: word_at(bytes, 0),
