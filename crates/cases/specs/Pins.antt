@@ -31,7 +31,7 @@ pub record PinCases : Type 0 where
   -- HD and Q on pin 30, which no field says; and a word with field 32 for both: 9 and 0xC5 come first
   pub packed-9-first : packingOf (record { hd = 30; q = 30; d = 8; cs = 11; clk = 6 }) ≡ refused 9
   pub sent-c5-first : (r : Lending) → sends r (framed (attachPacket 0x208082C6)) ≡ attachAnswer 1 0xC5
-  -- all lines on pin 0: the packer has no word for them, and SPI_ATTACH takes that word as the default
+  -- all lines on pin 0, whose word would be 0: the packer gives 9; SPI_ATTACH takes word 0 as the default, and word 1 as HSPI
   pub packed-as-0 : packingOf (record { hd = 0; q = 0; d = 0; cs = 0; clk = 0 }) ≡ refused 9
   pub default-sent : (r : Lending) → sends r (framed (attachPacket 0)) ≡ attachAnswer 0 0
   pub hspi-sent : (r : Lending) → sends r (framed (attachPacket 1)) ≡ attachAnswer 0 0

@@ -1,1 +1,2 @@
-// The starred cases of document 01. There is no code here: the statement stands in specs/, its proof in proofs/.
+// The starred cases of document 01, those of the digest command and of two lines on one pin, and the listing's example. There is no code
+// here: the statements stand in specs/, their proofs in proofs/.

@@ -1,4 +1,4 @@
--- The error byte of SPI_ATTACH beside what the packer of pins tells (request Seven): for all pins that fields can say, the two agree.
+-- The error byte of SPI_ATTACH beside what the packer of pins tells (request Seven): of pins that fields can say and whose word is neither 0 nor 1, the two agree.
 use mathlib.Core.Path.{_≡_}
 use mathlib.Core.Logic.{_↔_}
 use mathlib.Core.List.{List}

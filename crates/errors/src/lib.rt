@@ -47,7 +47,7 @@ const BAD_PADDING: u8 = 0xC4;
 
 const BLOCKS_MISSING: u8 = 0xC8;
 
-// A command that needs no session: its shape and its parameters.
+// Any other command that needs no session: its shape and its parameters.
 fn plain_error(shaped: bool, ruled: bool) -> u8
     ensures { λ r. ⌜ r ≡ first (plainChecks shaped ruled) ⌝ }
 {
@@ -58,14 +58,12 @@ fn plain_error(shaped: bool, ruled: bool) -> u8
 fn attach_error(shaped: bool, word: u32) -> u8
     ensures { λ r. ⌜ r ≡ first (attachChecks shaped word) ⌝ }
 {
+    let ruled = pins::attach_ruled(word);
+    let apart = pins::attach_apart(word);
     check(
         shaped,
         WRONG_SIZE,
-        check(
-            pins::attach_ruled(word),
-            BAD_PARAMETER,
-            check(pins::attach_apart(word), EQUAL_PINS, 0),
-        ),
+        check(ruled, BAD_PARAMETER, check(apart, EQUAL_PINS, 0)),
     )
 }
 

@@ -9,6 +9,35 @@ use Rattle.pins.specs.declared.Pins.{Pins}
 use Rattle.pins.specs.Pins.{twoEqual}
 use Rattle.pins.specs.Theorems.{Signal, HD, Q, D, CS, CLK, at, EveryPair}
 
+-- any two lines that share a number make one of the pairs equal
+shares : (p : Pins) (a b : Signal) → (a ≡ b → ⊥) → at p a ≡ at p b → twoEqual p ≡ true
+unfolding twoEqual
+shares p HD HD n e = absurd (n refl)
+shares p HD Q n e = rw (eq-eqb _ _ e)
+shares p HD D n e = rw (eq-eqb _ _ e, or-true)
+shares p HD CS n e = rw (eq-eqb _ _ e, or-true)
+shares p HD CLK n e = rw (eq-eqb _ _ e, or-true)
+shares p Q HD n e = rw (eq-eqb _ _ (sym e))
+shares p Q Q n e = absurd (n refl)
+shares p Q D n e = rw (eq-eqb _ _ e, or-true)
+shares p Q CS n e = rw (eq-eqb _ _ e, or-true)
+shares p Q CLK n e = rw (eq-eqb _ _ e, or-true)
+shares p D HD n e = rw (eq-eqb _ _ (sym e), or-true)
+shares p D Q n e = rw (eq-eqb _ _ (sym e), or-true)
+shares p D D n e = absurd (n refl)
+shares p D CS n e = rw (eq-eqb _ _ e, or-true)
+shares p D CLK n e = rw (eq-eqb _ _ e, or-true)
+shares p CS HD n e = rw (eq-eqb _ _ (sym e), or-true)
+shares p CS Q n e = rw (eq-eqb _ _ (sym e), or-true)
+shares p CS D n e = rw (eq-eqb _ _ (sym e), or-true)
+shares p CS CS n e = absurd (n refl)
+shares p CS CLK n e = rw (eq-eqb _ _ e, or-true)
+shares p CLK HD n e = rw (eq-eqb _ _ (sym e), or-true)
+shares p CLK Q n e = rw (eq-eqb _ _ (sym e), or-true)
+shares p CLK D n e = rw (eq-eqb _ _ (sym e), or-true)
+shares p CLK CS n e = rw (eq-eqb _ _ (sym e), or-true)
+shares p CLK CLK n e = absurd (n refl)
+
 -- no two lines have one place
 abbrev place : Signal → ℕ
 place HD = 0
@@ -49,35 +78,6 @@ found p = go _ _ _ _ _ _ _ _ _ _ refl refl refl refl refl refl refl refl refl re
     go false false false false false false false false true j h₀ h₁ h₂ h₃ h₄ h₅ h₆ h₇ h₈ h₉ t = (D, (CLK, ((λ k. omega (arith, ap place k)), eqb-true _ _ h₈)))
     go false false false false false false false false false true h₀ h₁ h₂ h₃ h₄ h₅ h₆ h₇ h₈ h₉ t = (CS, (CLK, ((λ k. omega (arith, ap place k)), eqb-true _ _ h₉)))
     go false false false false false false false false false false h₀ h₁ h₂ h₃ h₄ h₅ h₆ h₇ h₈ h₉ t = absurd (false≢true t)
-
--- any two lines that share a number make one of the pairs equal
-shares : (p : Pins) (a b : Signal) → (a ≡ b → ⊥) → at p a ≡ at p b → twoEqual p ≡ true
-unfolding twoEqual
-shares p HD HD n e = absurd (n refl)
-shares p HD Q n e = rw (eq-eqb _ _ e)
-shares p HD D n e = rw (eq-eqb _ _ e, or-true)
-shares p HD CS n e = rw (eq-eqb _ _ e, or-true)
-shares p HD CLK n e = rw (eq-eqb _ _ e, or-true)
-shares p Q HD n e = rw (eq-eqb _ _ (sym e))
-shares p Q Q n e = absurd (n refl)
-shares p Q D n e = rw (eq-eqb _ _ e, or-true)
-shares p Q CS n e = rw (eq-eqb _ _ e, or-true)
-shares p Q CLK n e = rw (eq-eqb _ _ e, or-true)
-shares p D HD n e = rw (eq-eqb _ _ (sym e), or-true)
-shares p D Q n e = rw (eq-eqb _ _ (sym e), or-true)
-shares p D D n e = absurd (n refl)
-shares p D CS n e = rw (eq-eqb _ _ e, or-true)
-shares p D CLK n e = rw (eq-eqb _ _ e, or-true)
-shares p CS HD n e = rw (eq-eqb _ _ (sym e), or-true)
-shares p CS Q n e = rw (eq-eqb _ _ (sym e), or-true)
-shares p CS D n e = rw (eq-eqb _ _ (sym e), or-true)
-shares p CS CS n e = absurd (n refl)
-shares p CS CLK n e = rw (eq-eqb _ _ e, or-true)
-shares p CLK HD n e = rw (eq-eqb _ _ (sym e), or-true)
-shares p CLK Q n e = rw (eq-eqb _ _ (sym e), or-true)
-shares p CLK D n e = rw (eq-eqb _ _ (sym e), or-true)
-shares p CLK CS n e = rw (eq-eqb _ _ (sym e), or-true)
-shares p CLK CLK n e = absurd (n refl)
 
 pub every-pair : EveryPair
 every-pair p = (found p, λ s. shares p (s .0) (s .1 .0) (s .1 .1 .0) (s .1 .1 .1))

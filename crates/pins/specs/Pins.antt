@@ -36,7 +36,7 @@ twoEqual p =
     || eqb (p .d) (p .clk)
     || eqb (p .cs) (p .clk)
 
--- "the two checks under 0xC5": the rule of SPI_ATTACH's word
+-- "the two checks under 0xC5" (request Seven): the rule of SPI_ATTACH's word
 unfoldable pub attachRule : ℕ → Bool
 attachRule w = noPins w || fieldsGood w
 

@@ -144,8 +144,8 @@ pub fn packed_is_taken()
     ensures { λ r. ⌜ PackedIsTaken ⌝ }
 {}
 
-// The loader and the packer agree: SPI_ATTACH accepts a word from 2 on exactly where the packer makes it, and gives 0xC7 to the word of
-// pins that fields can say exactly where the packer gives them 17.
+// The loader and the packer agree: SPI_ATTACH accepts words 0 and 1, accepts a word from 2 on exactly where the packer makes it, and
+// gives 0xC7 to the word of pins that fields can say exactly where the packer gives them 17.
 pub fn packer_agrees()
     ensures { λ r. ⌜ PackerAgrees ⌝ }
 {}

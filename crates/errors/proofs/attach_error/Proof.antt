@@ -1,6 +1,9 @@
-use mathlib.Core.Path.{refl}
+use Prim.Native.Nat.{ℕ}
+use mathlib.Core.Path.{_≡_}
+use mathlib.Core.Bool.{Bool, cond}
 use Rattle.errors.specs.Errors.{attachChecks}
 use Rattle.lists.specs.Checks.{first}
+use Rattle.pins.specs.Pins.{attachRule, attachApart}
 use borrow.Author.Needs.{needs}
 use Rattle.errors.proofs.attach_error.Statement.{statement}
 use Rattle.errors.proofs.attach_error.Tie as tie
@@ -20,9 +23,19 @@ check-requires-2 c κs = search needs
 check-requires-3 : tie.Need-check-requires-3
 check-requires-3 c κs = search needs
 
-returns : tie.Need-returns
+-- the three rows, one inside the other
+attach-whole : (isShaped isRuled isApart : Bool) (w byApart byRule error : ℕ) → isRuled ≡ attachRule w → isApart ≡ attachApart w
+    → byApart ≡ cond isApart 0 0xC7 → byRule ≡ cond isRuled byApart 0xC5 → error ≡ cond isShaped byRule 0xC0
+    → error ≡ first (attachChecks isShaped w)
 unfolding attachChecks first
-returns c = rw (c .check3 .ensures, c .before .check2 .ensures, c .before .before .check .ensures, c .before .before .before .attach-apart .ensures, c .before .before .before .before .attach-ruled .ensures) refl
+attach-whole isShaped isRuled isApart w byApart byRule error r a e₁ e₂ e₃ = rw (e₃, e₂, e₁, r, a)
+
+returns : tie.Need-returns
+returns c =
+    let at-check = c .before .before in
+    let at-attach-apart = at-check .before in
+    attach-whole _ _ _ _ _ _ _ (at-attach-apart .before .attach-ruled .ensures) (at-attach-apart .attach-apart .ensures)
+    (at-check .check .ensures) (c .before .check2 .ensures) (c .check3 .ensures)
 
 pub attach-error-spec : {M : Type 1} → statement M
 attach-error-spec =
