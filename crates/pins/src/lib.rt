@@ -1,4 +1,4 @@
-// The pin word of SPI_ATTACH.
+// The pin word of SPI_ATTACH, and the packer of pins.
 ghost use mathlib.Core.Path.{_≡_};
 ghost use mathlib.Core.Bool.{true};
 ghost use Rattle.pins.specs.Pins.{fieldsOf, noPins, fieldsGood, twoEqual, attachRule, attachApart, attachGood};
