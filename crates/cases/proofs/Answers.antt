@@ -5,15 +5,15 @@ use Prim.Native.Nat.{ℕ, _≤_}
 use lib.ListN.{length}
 use lib.Seq.{take-at}
 use Rattle.lists.specs.Lay.{lay}
-use Rattle.framing.specs.Frame.{longest, framed}
-use Rattle.unframing.specs.Reasons.{whole}
-use Rattle.packets.specs.Packets.{header}
-use Rattle.unframing.specs.Line.{stepOf}
-use Rattle.unframing.specs.Line.{fresh}
-use Rattle.notes.specs.Notes.{Order}
-use Rattle.effects.specs.Handle.{replied, handle}
-use Rattle.answers.specs.Answer.{answerBytes}
-use Rattle.answers.specs.declared.Body.{Body}
+use Rattle.slip_framing.specs.Frame.{longest, framed}
+use Rattle.slip_unframing.specs.Reasons.{whole}
+use Rattle.slip_packets.specs.Packets.{header}
+use Rattle.slip_unframing.specs.Line.{stepOf}
+use Rattle.slip_unframing.specs.Line.{fresh}
+use Rattle.loader_notes.specs.Notes.{Order}
+use Rattle.loader_effects.specs.Handle.{replied, handle}
+use Rattle.loader_answers.specs.Answer.{answerBytes}
+use Rattle.loader_answers.specs.declared.Body.{Body}
 use Rattle.loader.specs.Step.{taken, answerBuffer, toldOf}
 use Rattle.cases.specs.Feeding.{Lending, begun, sentCount, sends}
 use Rattle.cases.proofs.Fed.{packet-fed, freshCore, allowed-fresh}

@@ -11,23 +11,23 @@ use Rattle.lists.specs.Bytes.{allAre}
 use Rattle.fields.specs.Words as words
 use Rattle.fields.specs.Checksum.{xored, checksum}
 use Rattle.fields.proofs.Theorems.{word-back}
-use Rattle.framing.specs.Frame.{framed, framedAll}
-use Rattle.unframing.specs.Reasons.{whole}
-use Rattle.packets.specs.Packets.{read, header}
-use Rattle.commands.specs.Header.{command, sized, shaped, dataShaped}
-use Rattle.begins.specs.Begin.{beginOf, roundUp, counted, flashRule}
-use Rattle.commands.specs.Block.{payload, zeroWords, sumGood, padding, paddingGood}
-use Rattle.begins.specs.declared.Begin.{Begin}
-use Rattle.begins.proofs.Sectors.{next-block}
-use Rattle.sessions.specs.declared.Session.the-variants.{Flash}
-use Rattle.effects.specs.Core.{Core}
+use Rattle.slip_framing.specs.Frame.{framed, framedAll}
+use Rattle.slip_unframing.specs.Reasons.{whole}
+use Rattle.slip_packets.specs.Packets.{read, header}
+use Rattle.esp_commands.specs.Header.{command, sized, shaped, dataShaped}
+use Rattle.esp_begin.specs.Begin.{beginOf, roundUp, counted, flashRule}
+use Rattle.esp_commands.specs.Block.{payload, zeroWords, sumGood, padding, paddingGood}
+use Rattle.esp_begin.specs.declared.Begin.{Begin}
+use Rattle.esp_begin.proofs.Sectors.{next-block}
+use Rattle.loader_sessions.specs.declared.Session.the-variants.{Flash}
+use Rattle.loader_effects.specs.Core.{Core}
 use Rattle.loader.specs.Step.{Step}
-use Rattle.history.specs.Grammar as grammar
-use Rattle.history.specs.Grammar.{flashBegin, goodBlock, carries}
-use Rattle.history.specs.Loaded.{Loaded}
-use Rattle.history.proofs.Goodness.{block-whole}
-use Rattle.history.proofs.Sessions.{began, accepts}
-use Rattle.history.proofs.Flash.{loadedUpTo, nothing-loaded, Sizes, block-loaded, loaded}
+use Rattle.loader_history.specs.Grammar as grammar
+use Rattle.loader_history.specs.Grammar.{flashBegin, goodBlock, carries}
+use Rattle.loader_history.specs.Loaded.{Loaded}
+use Rattle.loader_history.proofs.Goodness.{block-whole}
+use Rattle.loader_history.proofs.Sessions.{began, accepts}
+use Rattle.loader_history.proofs.Flash.{loadedUpTo, nothing-loaded, Sizes, block-loaded, loaded}
 use Rattle.cases.specs.Feeding.{Lending, begun, fed}
 use Rattle.cases.specs.Packets.{beginPacket, Block, dataPacket}
 use Rattle.cases.specs.Cases.{fiveBlocks}

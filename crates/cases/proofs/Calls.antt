@@ -7,11 +7,11 @@ use lib.ListN.{length, drop}
 use Rattle.lists.specs.Lay.{lay}
 use Rattle.loader.specs.Step.{Step, Told, refused, taken, dropped, answered}
 use Rattle.loader.specs.RunStep.{RunStep}
-use Rattle.claims.proofs.ChangesNothing.{run-refused-changes-nothing}
-use Rattle.report.specs.Lines.{lineOf, hasSpace}
-use Rattle.report.specs.Listing as report
-use Rattle.report.specs.Listing.{numberAfter, reportOf, listedBy, listStep}
-use Rattle.report.specs.declared.Listing.{Listing}
+use Rattle.loader_claims.proofs.ChangesNothing.{run-refused-changes-nothing}
+use Rattle.listing_report.specs.Lines.{lineOf, hasSpace}
+use Rattle.listing_report.specs.Listing as report
+use Rattle.listing_report.specs.Listing.{numberAfter, reportOf, listedBy, listStep}
+use Rattle.listing_report.specs.declared.Listing.{Listing}
 use Rattle.cases.specs.Listing.{Page, left, countOf, called, calls}
 use Rattle.cases.proofs.Runs.{ran, Passes}
 

@@ -11,16 +11,16 @@ use Rattle.fields.specs.Checksum.{xored, checksum}
 use Rattle.fields.specs.Merge.{mergedBits, merged}
 use Rattle.pins.specs.Pins.{twoEqual}
 use Rattle.pins.specs.Packer.{pinGood, pinField, pinsGood, pinsWord, packingOf}
-use Rattle.framing.specs.Frame.{escaped, framed}
-use Rattle.packets.specs.Packets.{header}
-use Rattle.commands.specs.Header.{command, sized, shaped}
-use Rattle.begins.specs.Begin.{beginOf, roundUp, counted, flashRule}
-use Rattle.parameters.specs.Parameters.{syncRule}
-use Rattle.errors.specs.Errors.{kind, plainChecks, checks, errorOf}
-use Rattle.effects.specs.Effects.{effect}
-use Rattle.effects.specs.Handle.{carriedOut, failed, handle}
-use Rattle.answers.specs.Answer.{plain}
-use Rattle.notes.specs.Notes.{no-order}
+use Rattle.slip_framing.specs.Frame.{escaped, framed}
+use Rattle.slip_packets.specs.Packets.{header}
+use Rattle.esp_commands.specs.Header.{command, sized, shaped}
+use Rattle.esp_begin.specs.Begin.{beginOf, roundUp, counted, flashRule}
+use Rattle.esp_parameters.specs.Parameters.{syncRule}
+use Rattle.loader_errors.specs.Errors.{kind, plainChecks, checks, errorOf}
+use Rattle.loader_effects.specs.Effects.{effect}
+use Rattle.loader_effects.specs.Handle.{carriedOut, failed, handle}
+use Rattle.loader_answers.specs.Answer.{plain}
+use Rattle.loader_notes.specs.Notes.{no-order}
 use Rattle.link_state.specs.Clock.{silence, stillDead}
 use Rattle.link_state.specs.Link.{withDead}
 use Rattle.link_state.specs.declared.Link.{Link}

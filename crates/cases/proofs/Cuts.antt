@@ -14,11 +14,11 @@ use Rattle.loader_state.specs.Refusals.{refusal}
 use Rattle.loader.specs.Step.{Step, Told, refused, taken, dropped, answered, bufferLengths, refusing}
 use Rattle.loader.specs.RunStep.{refusingRun}
 use Rattle.loader.proofs.Judged.{run-stopped}
-use Rattle.claims.proofs.ChangesNothing.{empty-run-changes-nothing}
+use Rattle.loader_claims.proofs.ChangesNothing.{empty-run-changes-nothing}
 use Rattle.loader.proofs.Runs.{later}
-use Rattle.claims.specs.HoweverCut.{joined}
-use Rattle.report.specs.Lines.{lineOf, hasSpace}
-use Rattle.report.specs.Listing.{numberAfter, reportOf, full, listedBy, listStep}
+use Rattle.loader_claims.specs.HoweverCut.{joined}
+use Rattle.listing_report.specs.Lines.{lineOf, hasSpace}
+use Rattle.listing_report.specs.Listing.{numberAfter, reportOf, full, listedBy, listStep}
 use Rattle.cases.specs.Feeding as feeding
 use Rattle.cases.specs.Listing.{Page, left, countOf, called, calls, listed, listedRuns}
 use Rattle.cases.proofs.Runs.{ran, Passes, passed-on, stopped-at}

@@ -11,17 +11,17 @@ use Rattle.lists.specs.Checks.{first}
 use Rattle.lists.proofs.Tests.{both, first-passed}
 use Rattle.fields.specs.Words.{word, half}
 use Rattle.digest.proofs.Examples.{none-digest, md5-none, abc-digest, md5-abc}
-use Rattle.packets.specs.Packets.{header}
-use Rattle.begins.specs.Begin.{sector}
-use Rattle.commands.specs.Header.{command, shaped, sized}
-use Rattle.commands.specs.Block.{zeroWords}
-use Rattle.parameters.specs.Parameters.{digestRule}
-use Rattle.answers.specs.Answer.{plain, withDigest}
-use Rattle.errors.specs.Errors.{kind, checks, plainChecks, errorOf}
-use Rattle.notes.specs.Notes.{no-order}
-use Rattle.effects.specs.Effects.{effect}
-use Rattle.effects.specs.Handle.{carriedOut, failed, handle}
-use Rattle.framing.specs.Frame.{framed, escaped}
+use Rattle.slip_packets.specs.Packets.{header}
+use Rattle.esp_begin.specs.Begin.{sector}
+use Rattle.esp_commands.specs.Header.{command, shaped, sized}
+use Rattle.esp_commands.specs.Block.{zeroWords}
+use Rattle.esp_parameters.specs.Parameters.{digestRule}
+use Rattle.loader_answers.specs.Answer.{plain, withDigest}
+use Rattle.loader_errors.specs.Errors.{kind, checks, plainChecks, errorOf}
+use Rattle.loader_notes.specs.Notes.{no-order}
+use Rattle.loader_effects.specs.Effects.{effect}
+use Rattle.loader_effects.specs.Handle.{carriedOut, failed, handle}
+use Rattle.slip_framing.specs.Frame.{framed, escaped}
 use Rattle.loader_state.specs.Refusals.{flashLength, bufferChecks}
 use Rattle.loader.specs.Step.{bufferLengths}
 use Rattle.cases.specs.Feeding.{Lending}

@@ -6,9 +6,9 @@ use Prim.Native.Nat.{ℕ, zero, suc, _+_, _≤_, _<_}
 use native.Mathlib.Nat.{add-zero}
 use native.Mathlib.Omega.{arith}
 use lib.ListN.{length, drop, length-drop}
-use Rattle.report.specs.Listing as report
-use Rattle.report.specs.Listing.{ListReport, ListStep, not-fed, call-refused}
-use Rattle.report.proofs.Progress.{counts-some}
+use Rattle.listing_report.specs.Listing as report
+use Rattle.listing_report.specs.Listing.{ListReport, ListStep, not-fed, call-refused}
+use Rattle.listing_report.proofs.Progress.{counts-some}
 use Rattle.cases.specs.Listing.{Page, left, countOf, called, calls, listed}
 
 module _ (p : Page) (b : ℕ) (bs : List ℕ) where

@@ -9,24 +9,24 @@ use Rattle.lists.specs.Bytes.{sameBytes, allAre}
 use Rattle.lists.specs.Checks.{first}
 use Rattle.lists.proofs.Laws.{lay-lay, length-lay}
 use Rattle.fields.specs.Words as words
-use Rattle.framing.specs.Frame.{longest, framedAll}
-use Rattle.answers.specs.Reply.{longestAnswer}
-use Rattle.unframing.specs.Reasons.{letters, whole}
-use Rattle.packets.specs.Packets.{header}
-use Rattle.commands.specs.Header.{command, sized, shaped}
-use Rattle.parameters.specs.Parameters.{syncRule}
-use Rattle.errors.specs.Errors.{kind, plainChecks, endChecks, checks, errorOf}
-use Rattle.sessions.specs.Session.{flashOpen}
-use Rattle.effects.specs.Core.{Core}
-use Rattle.effects.specs.Effects.{effect}
-use Rattle.effects.specs.Handle.{carriedOut, failed, handle}
+use Rattle.slip_framing.specs.Frame.{longest, framedAll}
+use Rattle.loader_answers.specs.Reply.{longestAnswer}
+use Rattle.slip_unframing.specs.Reasons.{letters, whole}
+use Rattle.slip_packets.specs.Packets.{header}
+use Rattle.esp_commands.specs.Header.{command, sized, shaped}
+use Rattle.esp_parameters.specs.Parameters.{syncRule}
+use Rattle.loader_errors.specs.Errors.{kind, plainChecks, endChecks, checks, errorOf}
+use Rattle.loader_sessions.specs.Session.{flashOpen}
+use Rattle.loader_effects.specs.Core.{Core}
+use Rattle.loader_effects.specs.Effects.{effect}
+use Rattle.loader_effects.specs.Handle.{carriedOut, failed, handle}
 use Rattle.loader_state.specs.Refusals.{bufferChecks, flashLength, wordCount}
 use Rattle.loader.specs.Step.{bufferLengths, toldOf}
-use Rattle.claims.specs.HoweverCut.{joined}
-use Rattle.report.specs.Numbers.{digits, decimal}
-use Rattle.columns.specs.Columns.{heading}
-use Rattle.report.specs.Lines.{longestLine, lineOf}
-use Rattle.report.specs.Listing.{numberAfter}
+use Rattle.loader_claims.specs.HoweverCut.{joined}
+use Rattle.listing_report.specs.Numbers.{digits, decimal}
+use Rattle.listing_columns.specs.Columns.{heading}
+use Rattle.listing_report.specs.Lines.{longestLine, lineOf}
+use Rattle.listing_report.specs.Listing.{numberAfter}
 use Rattle.cases.specs.Feeding.{Lending, begun}
 use Rattle.cases.specs.Packets.{syncPacket, endPacket}
 use Rattle.cases.specs.Listing.{opened, listed, listedRuns}

@@ -13,29 +13,29 @@ use Rattle.lists.specs.Checks.{first}
 use Rattle.lists.proofs.Laws.{length-lay}
 use Rattle.lists.proofs.Tests.{first-passed, first-append}
 use Rattle.pins.proofs.Theorems.{zero-taken}
-use Rattle.framing.specs.Frame.{END, longest, escaped, framed, framedAll}
-use Rattle.unframing.specs.Reasons.{whole}
-use Rattle.packets.specs.Packets.{header}
-use Rattle.unframing.specs.Line.{Step as ByteStep, lineState, silent, closed, stepOf}
-use Rattle.packets.specs.Run.{closedPackets, stateAfter, bufferAfter}
-use Rattle.unframing.specs.Line.{fresh}
-use Rattle.unframing.specs.declared.Line.{Line}
-use Rattle.unframing.specs.declared.Phase.the-variants.{Inside}
-use Rattle.packets.proofs.Unescape.{means-escaped}
-use Rattle.packets.proofs.Cut.{clean-escaped}
-use Rattle.packets.proofs.Invariant as invariant
-use Rattle.packets.proofs.Invariant.{Pend, inside, Fed, still, closes, pend-fresh, pend-opened, pend-held}
-use Rattle.packets.proofs.Runs.{escaped-leads}
-use Rattle.sessions.specs.Session.{sessionGood}
-use Rattle.effects.specs.Core.{Core}
-use Rattle.effects.specs.Handle.{Handled, handle}
+use Rattle.slip_framing.specs.Frame.{END, longest, escaped, framed, framedAll}
+use Rattle.slip_unframing.specs.Reasons.{whole}
+use Rattle.slip_packets.specs.Packets.{header}
+use Rattle.slip_unframing.specs.Line.{Step as ByteStep, lineState, silent, closed, stepOf}
+use Rattle.slip_packets.specs.Run.{closedPackets, stateAfter, bufferAfter}
+use Rattle.slip_unframing.specs.Line.{fresh}
+use Rattle.slip_unframing.specs.declared.Line.{Line}
+use Rattle.slip_unframing.specs.declared.Phase.the-variants.{Inside}
+use Rattle.slip_packets.proofs.Unescape.{means-escaped}
+use Rattle.slip_packets.proofs.Cut.{clean-escaped}
+use Rattle.slip_packets.proofs.Invariant as invariant
+use Rattle.slip_packets.proofs.Invariant.{Pend, inside, Fed, still, closes, pend-fresh, pend-opened, pend-held}
+use Rattle.slip_packets.proofs.Runs.{escaped-leads}
+use Rattle.loader_sessions.specs.Session.{sessionGood}
+use Rattle.loader_effects.specs.Core.{Core}
+use Rattle.loader_effects.specs.Handle.{Handled, handle}
 use Rattle.loader_state.specs.Refusals.{BufferLengths, bufferChecks, recordGood, refusal}
 use Rattle.loader_state.specs.Record.{freshLoader}
 use Rattle.loader.specs.Step.{Step, Told, taken, coreOf, step, afterPacket, afterByte, bufferLengths, answerBuffer, toldOf}
 use Rattle.loader_state.specs.declared.Loader.{Loader}
-use Rattle.history.proofs.Lengths.{Sound, keeps, sound-after}
-use Rattle.claims.specs.Calls.{Called, stepped, EachCall}
-use Rattle.claims.proofs.Line.{follows}
+use Rattle.loader_history.proofs.Lengths.{Sound, keeps, sound-after}
+use Rattle.loader_claims.specs.Calls.{Called, stepped, EachCall}
+use Rattle.loader_claims.proofs.Line.{follows}
 use Rattle.cases.specs.Feeding.{Lending, begun, called, fed}
 
 pub fed-append : (s : Step) (xs ys : List ℕ) → fed s (xs ++ ys) ≡ fed (fed s xs) ys

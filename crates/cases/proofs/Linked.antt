@@ -23,8 +23,8 @@ use Rattle.link_state.specs.Rates.{onList}
 use Rattle.link_refusals.specs.Sound.{fitsPhase, holderGood, sound}
 use Rattle.link_refusals.specs.Refusals.{shortestBuffer, checks, sendChecks}
 use Rattle.link_refusals.proofs.Sound.{checks-passed}
-use Rattle.link_turns.specs.Turns.{listens}
-use Rattle.link_whole.specs.Whole.{baudFrame}
+use Rattle.link_events.specs.Turns.{listens}
+use Rattle.link_effects.specs.Whole.{baudFrame}
 use Rattle.link.specs.Answers.{done, sentBy}
 use Rattle.link.specs.Hearing.{wholeFrame, heard, received}
 use Rattle.link.specs.Step.{call, byteStep, pollStep, sendStep}

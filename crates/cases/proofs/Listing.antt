@@ -9,14 +9,14 @@ use lib.ListN.{length, length-append}
 use lib.Seq.{drop-at}
 use Rattle.lists.specs.Lay.{lay}
 use Rattle.lists.proofs.Laws.{lay-nil, lay-lay, length-lay}
-use Rattle.framing.specs.Frame.{END, longest, escaped, framed, framedAll}
-use Rattle.unframing.specs.Reasons.{whole}
-use Rattle.packets.specs.Packets.{header}
-use Rattle.effects.specs.Core.{Core}
-use Rattle.effects.specs.Handle.{handle}
+use Rattle.slip_framing.specs.Frame.{END, longest, escaped, framed, framedAll}
+use Rattle.slip_unframing.specs.Reasons.{whole}
+use Rattle.slip_packets.specs.Packets.{header}
+use Rattle.loader_effects.specs.Core.{Core}
+use Rattle.loader_effects.specs.Handle.{handle}
 use Rattle.loader.specs.Step.{Step, Told, toldOf}
-use Rattle.report.specs.Lines.{longestLine, lineOf}
-use Rattle.report.specs.Listing.{numberAfter}
+use Rattle.listing_report.specs.Lines.{longestLine, lineOf}
+use Rattle.listing_report.specs.Listing.{numberAfter}
 use Rattle.cases.specs.Feeding.{fed}
 use Rattle.cases.specs.Listing.{Page, calls}
 use Rattle.cases.proofs.Fed.{Idle, idle-after, idle-passes, idle-told}

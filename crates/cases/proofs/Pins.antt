@@ -6,17 +6,17 @@ use native.Mathlib.Omega.{arith}
 use Rattle.lists.specs.Checks.{_orElse_, first}
 use Rattle.lists.proofs.Tests.{first-append}
 use Rattle.fields.specs.Words.{word, half}
-use Rattle.framing.specs.Frame.{framed, escaped}
-use Rattle.packets.specs.Packets.{header}
+use Rattle.slip_framing.specs.Frame.{framed, escaped}
+use Rattle.slip_packets.specs.Packets.{header}
 use Rattle.pins.specs.Pins.{noPins, fieldsGood, twoEqual, attachRule, attachApart, attachGood}
 use Rattle.pins.specs.Packer.{pinGood, pinField, pinsGood, pinsWord, packingOf}
-use Rattle.commands.specs.Header.{command, shaped, sized}
-use Rattle.answers.specs.Answer.{plain}
-use Rattle.errors.specs.Errors.{kind, checks, attachChecks, errorOf}
-use Rattle.notes.specs.Notes.{no-order}
-use Rattle.sessions.specs.Session.{sessionGood}
-use Rattle.effects.specs.Effects.{effect}
-use Rattle.effects.specs.Handle.{carriedOut, failed, handle}
+use Rattle.esp_commands.specs.Header.{command, shaped, sized}
+use Rattle.loader_answers.specs.Answer.{plain}
+use Rattle.loader_errors.specs.Errors.{kind, checks, attachChecks, errorOf}
+use Rattle.loader_notes.specs.Notes.{no-order}
+use Rattle.loader_sessions.specs.Session.{sessionGood}
+use Rattle.loader_effects.specs.Effects.{effect}
+use Rattle.loader_effects.specs.Handle.{carriedOut, failed, handle}
 use Rattle.loader_state.specs.Refusals.{BufferLengths, lengthsOf, bufferChecks, recordGood, refusal}
 use Rattle.cases.specs.Packets.{attachPacket}
 use Rattle.cases.specs.Pins.{holding, PinCases}

@@ -5,13 +5,13 @@ use mathlib.Core.Option.{Option, none, some}
 use Prim.Native.Nat.{ℕ, _+_, _≤_}
 use native.Mathlib.Omega.{arith}
 use lib.ListN.{length, length-append}
-use Rattle.framing.specs.Frame.{END, longest, escaped, framed}
-use Rattle.unframing.specs.Reasons.{whole}
-use Rattle.packets.specs.Packets.{header}
-use Rattle.unframing.specs.Line.{Closed, stepOf}
-use Rattle.unframing.specs.declared.Line.{Line}
-use Rattle.effects.specs.Core.{Core}
-use Rattle.effects.specs.Handle.{Reply, nothing, replied, handle}
+use Rattle.slip_framing.specs.Frame.{END, longest, escaped, framed}
+use Rattle.slip_unframing.specs.Reasons.{whole}
+use Rattle.slip_packets.specs.Packets.{header}
+use Rattle.slip_unframing.specs.Line.{Closed, stepOf}
+use Rattle.slip_unframing.specs.declared.Line.{Line}
+use Rattle.loader_effects.specs.Core.{Core}
+use Rattle.loader_effects.specs.Handle.{Reply, nothing, replied, handle}
 use Rattle.loader_state.specs.Refusals.{refusal}
 use Rattle.loader.specs.Step.{Step, taken, coreOf, bufferLengths, toldOf, afterPacket, afterByte}
 use Rattle.loader.specs.RunStep.{RunStep, runStep}

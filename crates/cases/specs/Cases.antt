@@ -8,8 +8,8 @@ use Rattle.lists.specs.Checks.{first}
 use Rattle.fields.specs.Checksum.{checksum}
 use Rattle.fields.specs.Merge.{merged}
 use Rattle.pins.specs.Packer.{word, packingOf}
-use Rattle.framing.specs.Frame.{framed, framedAll}
-use Rattle.begins.specs.Begin.{flashRule}
+use Rattle.slip_framing.specs.Frame.{framed, framedAll}
+use Rattle.esp_begin.specs.Begin.{flashRule}
 use Rattle.link_frames.specs.Frames.{baudRate, dataFrame}
 use Rattle.link_state.specs.Clock.{elapsed}
 use Rattle.link_state.specs.Link.{inBaud, inOpen}

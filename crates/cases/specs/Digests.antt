@@ -2,7 +2,7 @@
 use mathlib.Core.Path.{_≡_}
 use mathlib.Core.List.{List, [], _∷_}
 use lib.ListN.{length, take, replicate}
-use Rattle.framing.specs.Frame.{framed}
+use Rattle.slip_framing.specs.Frame.{framed}
 use Prim.Native.Nat.{ℕ}
 use Rattle.cases.specs.Feeding.{Lending, sends}
 use Rattle.cases.specs.Packets.{digestPacket}

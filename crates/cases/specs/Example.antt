@@ -5,15 +5,15 @@ use Prim.Native.Nat.{ℕ, _+_, _≤_}
 use lib.ListN.{length, replicate}
 use Rattle.lists.specs.Lay.{lay}
 use Rattle.lists.specs.Checks.{first}
-use Rattle.framing.specs.Frame.{longest, framedAll}
-use Rattle.unframing.specs.declared.Reason.the-variants.{BadEscape, CutEscape, TooLong, TooShort, WrongDirection}
-use Rattle.answers.specs.Reply.{longestAnswer}
+use Rattle.slip_framing.specs.Frame.{longest, framedAll}
+use Rattle.slip_unframing.specs.declared.Reason.the-variants.{BadEscape, CutEscape, TooLong, TooShort, WrongDirection}
+use Rattle.loader_answers.specs.Reply.{longestAnswer}
 use Rattle.loader_state.specs.Refusals.{bufferChecks}
 use Rattle.loader.specs.Step.{dropped, bufferLengths}
-use Rattle.claims.specs.HoweverCut.{joined}
-use Rattle.report.specs.Numbers.{decimal}
-use Rattle.columns.specs.Columns.{heading}
-use Rattle.report.specs.Lines.{lineOf, longestLine}
+use Rattle.loader_claims.specs.HoweverCut.{joined}
+use Rattle.listing_report.specs.Numbers.{decimal}
+use Rattle.listing_columns.specs.Columns.{heading}
+use Rattle.listing_report.specs.Lines.{lineOf, longestLine}
 use Rattle.cases.specs.Feeding.{Lending}
 use Rattle.cases.specs.Packets.{syncPacket, endPacket}
 use Rattle.cases.specs.Listing.{Page, opened, calls, listed, listedRuns}

@@ -4,7 +4,7 @@ use mathlib.Core.List.{List, [], _∷_, _++_}
 use Prim.Native.Nat.{ℕ}
 use lib.ListN.{take}
 use Rattle.lists.specs.Checks.{first}
-use Rattle.framing.specs.Frame.{framed}
+use Rattle.slip_framing.specs.Frame.{framed}
 use Rattle.loader_state.specs.Refusals.{bufferChecks}
 use Rattle.loader_state.specs.Record.{freshLoader}
 use Rattle.loader.specs.Step.{Step, Told, refused, taken, dropped, answered, bufferLengths, step}

@@ -3,10 +3,10 @@ use mathlib.Core.List.{List, [], _∷_}
 use Prim.Native.Nat.{ℕ, zero, suc}
 use lib.ListN.{length, drop}
 use Rattle.lists.specs.Lay.{lay}
-use Rattle.columns.specs.Columns.{heading}
-use Rattle.report.specs.Listing.{freshListing, ListReport, not-fed, call-refused, ListStep, listStep}
-use Rattle.report.specs.Listing as report
-use Rattle.report.specs.declared.Listing.{Listing}
+use Rattle.listing_columns.specs.Columns.{heading}
+use Rattle.listing_report.specs.Listing.{freshListing, ListReport, not-fed, call-refused, ListStep, listStep}
+use Rattle.listing_report.specs.Listing as report
+use Rattle.listing_report.specs.declared.Listing.{Listing}
 use Rattle.cases.specs.Feeding.{Lending}
 
 -- what a call leaves for the next: the record, the lent buffers, and how many bytes of the text are used
@@ -45,7 +45,7 @@ countOf not-fed = 0
 countOf (call-refused n) = 0
 countOf (report.listed next n count) = count
 
--- `listStep` is the definition that the contract of `report::feed_run` cites
+-- `listStep` is the definition that the contract of `listing_report::feed_run` cites
 unfoldable pub called : Page → List ℕ → ListStep
 called p run = listStep (p .listing) run (p .packet) (p .answer) (p .flash) (p .words) (p .text) (p .used)
 

@@ -3,7 +3,7 @@ use mathlib.Core.Path.{_≡_}
 use mathlib.Core.List.{List, [], _∷_}
 use Prim.Native.Nat.{ℕ}
 use Rattle.lists.specs.Checks.{first}
-use Rattle.framing.specs.Frame.{framed}
+use Rattle.slip_framing.specs.Frame.{framed}
 use Rattle.pins.specs.Packer.{refused, packingOf}
 use Rattle.loader_state.specs.Record.{freshLoader}
 use Rattle.loader_state.specs.Refusals.{BufferLengths, bufferChecks, refusal}

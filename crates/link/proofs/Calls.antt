@@ -12,9 +12,9 @@ use Rattle.link_frames.specs.Writing.{fitting}
 use Rattle.link_frames.proofs.Writing.{fits}
 use Rattle.link_refusals.specs.Refusals.{shortestBuffer}
 use Rattle.link_state.specs.declared.Link.{Link}
-use Rattle.link_turns.specs.Moves.{Move, sent}
-use Rattle.link_turns.specs.declared.Reply.{Reply}
-use Rattle.link_turns.specs.declared.Reply.the-variants.{Nothing, Heartbeat, Status}
+use Rattle.link_events.specs.Moves.{Move, sent}
+use Rattle.link_events.specs.declared.Reply.{Reply}
+use Rattle.link_events.specs.declared.Reply.the-variants.{Nothing, Heartbeat, Status}
 use Rattle.link.specs.Answers.{done, refusing}
 use Rattle.link.specs.Step.{call}
 

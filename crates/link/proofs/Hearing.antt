@@ -17,8 +17,8 @@ use Rattle.link_refusals.specs.Sound.{holderGood}
 use Rattle.link_state.specs.declared.Link.{Link}
 use Rattle.link_state.specs.declared.Phase.the-variants.{Start, Baud, Open}
 use Rattle.link_refusals.proofs.Sound.{held-good}
-use Rattle.link_turns.specs.Turns.{quiet, broken}
-use Rattle.link_whole.specs.Whole.{baudFrame, openFrame}
+use Rattle.link_events.specs.Turns.{quiet, broken}
+use Rattle.link_effects.specs.Whole.{baudFrame, openFrame}
 use Rattle.link.specs.Hearing.{wholeFrame, heard}
 use Rattle.link.proofs.Padded.{data-padded}
 use Rattle.link.proofs.Kept.{held-kept, zero-kept, length-kept}

@@ -8,7 +8,7 @@ use lib.ListN.{length, take, drop, replicate}
 use Rattle.lists.specs.Bytes.{allAre}
 use Rattle.link_frames.specs.Frames.{mostContents, mostData}
 use Rattle.link_frames.proofs.Holder.{zero-first}
-use Rattle.link_turns.specs.Moves.{padded}
+use Rattle.link_events.specs.Moves.{padded}
 
 all-zero : (xs : List ℕ) → allAre 0 xs ≡ true → replicate (length xs) 0 ≡ xs
 all-zero [] h = refl

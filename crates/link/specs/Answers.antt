@@ -5,7 +5,7 @@ use Prim.Native.Nat.{ℕ}
 use lib.ListN.{length, take}
 use Rattle.lists.specs.Lay.{lay}
 use Rattle.link_state.specs.declared.Link.{Link}
-use Rattle.link_turns.specs.Moves.{Saying, refused, said, padded, Move}
+use Rattle.link_events.specs.Moves.{Saying, refused, said, padded, Move}
 use Rattle.link.specs.declared.Told.{Told}
 
 -- the next record, what the caller is told, and the answer buffer

@@ -7,9 +7,9 @@ use Rattle.fields.specs.Words.{word}
 use Rattle.link_frames.specs.Reading.{reading, byReading}
 use Rattle.link_state.specs.Link.{byPhase, heldOf, renewed, kept}
 use Rattle.link_state.specs.declared.Link.{Link}
-use Rattle.link_turns.specs.Moves.{Move, padded}
-use Rattle.link_turns.specs.Turns.{quiet, broken, listens}
-use Rattle.link_whole.specs.Whole.{baudFrame, openFrame}
+use Rattle.link_events.specs.Moves.{Move, padded}
+use Rattle.link_events.specs.Turns.{quiet, broken, listens}
+use Rattle.link_effects.specs.Whole.{baudFrame, openFrame}
 
 -- a whole frame, of which the bytes but the checksum are given; in Start no byte is read, so that none is ever whole there
 unfoldable pub wholeFrame : Link → List ℕ → ℕ → Move

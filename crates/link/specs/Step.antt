@@ -10,8 +10,8 @@ use Rattle.link_state.specs.Link.{withOutstanding}
 use Rattle.link_state.specs.Silence.{lost, checked}
 use Rattle.link_refusals.specs.Refusals.{checks, sendChecks}
 use Rattle.link_state.specs.declared.Link.{Link}
-use Rattle.link_turns.specs.Moves.{Move}
-use Rattle.link_turns.specs.Turns.{quiet, answers, pulled}
+use Rattle.link_events.specs.Moves.{Move}
+use Rattle.link_events.specs.Turns.{quiet, answers, pulled}
 use Rattle.link.specs.Answers.{Step, done, refusing}
 use Rattle.link.specs.Hearing.{received}
 

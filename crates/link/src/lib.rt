@@ -1,11 +1,11 @@
 // The hand unit's end of the expansion protocol, as a record that each call takes and hands back.
+pub use link_events::Event;
+use link_events::Turn;
 pub use link_frames::Holder;
 pub use link_frames::Payload;
 pub use link_state::Link;
 pub use link_state::Phase;
 pub use link_state::new;
-pub use link_turns::Event;
-use link_turns::Turn;
 ghost use mathlib.Core.Path.{_≡_};
 ghost use mathlib.Core.List.{List};
 ghost use mathlib.Core.Bool.{true};
@@ -15,7 +15,7 @@ ghost use Rattle.link_frames.specs.Frames.{mostHeld};
 ghost use Rattle.link_state.specs.Link.{store, heldOf, kept};
 ghost use Rattle.link_refusals.specs.Sound.{holderGood};
 ghost use Rattle.link_refusals.specs.Refusals.{shortestBuffer};
-ghost use Rattle.link_turns.specs.Moves.{moved};
+ghost use Rattle.link_events.specs.Moves.{moved};
 ghost use Rattle.link.specs.Answers.{came, done, refusing};
 ghost use Rattle.link.specs.Hearing.{wholeFrame, heard, received};
 ghost use Rattle.link.specs.Step.{pullStep, byteStep, pollStep, sendStep};
@@ -65,12 +65,12 @@ fn frame_whole(link: Link, tick: u32) -> Turn
     let kind = link.kind;
     let next = link_state::renew(link, tick);
     match phase {
-        Phase::Start => link_turns::stay(next),
+        Phase::Start => link_events::stay(next),
         Phase::Baud => {
             let rate = fields::word_at(&link.frame, 0);
-            link_whole::baud_frame(next, kind, rate, tick)
+            link_effects::baud_frame(next, kind, rate, tick)
         }
-        Phase::Open => link_whole::open_frame(next, kind, &link.frame),
+        Phase::Open => link_effects::open_frame(next, kind, &link.frame),
     }
 }
 
@@ -85,13 +85,13 @@ fn hear(link: Link, byte: u8, tick: u32) -> Turn
         if byte == fields::xor_from(link.kind, &contents[..count], 0) {
             return frame_whole(link, tick);
         }
-        return link_turns::break_off();
+        return link_events::break_off();
     }
     let next = keep(link, byte);
     if link_frames::is_begun(next.held, next.kind, next.frame[0]) {
-        return link_turns::stay(next);
+        return link_events::stay(next);
     }
-    link_turns::break_off()
+    link_events::break_off()
 }
 
 // A byte, after the silence and dead time checks.
@@ -100,10 +100,10 @@ fn receive(link: Link, byte: u8, tick: u32) -> Turn
     ensures { λ r. ⌜ moved r ≡ received link byte tick ⌝ }
 {
     let phase = link.phase;
-    if link_turns::is_listening(phase, link.dead) {
+    if link_events::is_listening(phase, link.dead) {
         return hear(link, byte, tick);
     }
-    link_turns::stay(link)
+    link_events::stay(link)
 }
 
 // A turn carried out: its reply is written, and the caller is told.
@@ -115,7 +115,7 @@ fn answer(turn: Turn, gone: bool, buffer: &mut [u8]) -> Next
     let event = turn.event;
     let reply = turn.reply;
     let bytes = turn.bytes;
-    let sent = link_turns::write_reply(reply, buffer);
+    let sent = link_events::write_reply(reply, buffer);
     Next {
         link,
         told: Told {
@@ -137,7 +137,7 @@ fn refuse(link: Link, number: u8) -> Next
             event: Event::Refused(number),
             lost: false,
             sent: 0,
-            bytes: link_turns::NO_DATA,
+            bytes: link_events::NO_DATA,
         },
     }
 }
@@ -155,7 +155,7 @@ pub fn pull(link: Link, tick: u32, buffer: &mut [u8]) -> Next
         let phase = link.phase;
         let gone = link_state::is_lost(phase, link.last, tick);
         return answer(
-            link_turns::pull_line(link_state::after_checks(link, tick), tick),
+            link_events::pull_line(link_state::after_checks(link, tick), tick),
             gone,
             buffer,
         );
@@ -191,7 +191,7 @@ pub fn poll(link: Link, tick: u32, buffer: &mut [u8]) -> Next
         let phase = link.phase;
         let gone = link_state::is_lost(phase, link.last, tick);
         return answer(
-            link_turns::stay(link_state::after_checks(link, tick)),
+            link_events::stay(link_state::after_checks(link, tick)),
             gone,
             buffer,
         );
@@ -218,7 +218,7 @@ pub fn send(link: Link, bytes: &[u8], tick: u32, buffer: &mut [u8]) -> Next
                 event: Event::Nothing,
                 lost: gone,
                 sent,
-                bytes: link_turns::NO_DATA,
+                bytes: link_events::NO_DATA,
             },
         };
     }

@@ -11,8 +11,8 @@ use Rattle.link_state.specs.Silence.{checked}
 use Rattle.link_state.specs.declared.Link.{Link}
 use Rattle.link_state.specs.declared.Phase.{Phase}
 use Rattle.link_state.specs.declared.Phase.the-variants.{Start, Baud, Open}
-use Rattle.link_turns.specs.Moves.{ended, Move}
-use Rattle.link_turns.specs.Turns.{quiet, answers, pulled, listens}
+use Rattle.link_events.specs.Moves.{ended, Move}
+use Rattle.link_events.specs.Turns.{quiet, answers, pulled, listens}
 use Rattle.link.specs.Answers.{Step, done, refusing}
 use Rattle.link.specs.Hearing.{received}
 use Rattle.link_claims.specs.Calls.{Call, pull, byte, poll, send, tickOf, bufferOf, step}

@@ -19,7 +19,7 @@ use Rattle.link_refusals.proofs.Sound.{held-good, checks-passed}
 use Rattle.link_state.specs.declared.Link.{Link}
 use Rattle.link_state.specs.declared.Phase.{Phase}
 use Rattle.link_state.specs.declared.Phase.the-variants.{Start, Baud, Open}
-use Rattle.link_turns.specs.Turns.{pulled, listens}
+use Rattle.link_events.specs.Turns.{pulled, listens}
 use Rattle.link.specs.Answers.{done, refusing}
 use Rattle.link.specs.Hearing.{received}
 use Rattle.link_claims.specs.Calls.{Call, pull, byte, poll, send, step}

@@ -14,9 +14,9 @@ use Rattle.link_state.specs.Silence.{lost, checked}
 use Rattle.link_refusals.specs.Refusals.{shortestBuffer, checks, sendChecks}
 use Rattle.link_state.specs.declared.Link.{Link}
 use Rattle.link_state.specs.declared.Phase.the-variants.{Start, Open}
-use Rattle.link_turns.specs.Moves.{handed, ended, Move, move, padded}
-use Rattle.link_turns.specs.Turns.{quiet, answers, tells, pulled, listens}
-use Rattle.link_whole.specs.Whole.{takenData, statusFrame, openFrame}
+use Rattle.link_events.specs.Moves.{handed, ended, Move, move, padded}
+use Rattle.link_events.specs.Turns.{quiet, answers, tells, pulled, listens}
+use Rattle.link_effects.specs.Whole.{takenData, statusFrame, openFrame}
 use Rattle.link.specs.Answers.{Step, done}
 use Rattle.link.specs.Hearing.{wholeFrame, heard, received}
 use Rattle.link.proofs.Kept.{held-kept}

@@ -7,8 +7,8 @@ use Rattle.lists.proofs.Laws.{lay-nil}
 use Rattle.lists.proofs.Tests.{absurd-test}
 use Rattle.link_state.specs.Silence.{checked}
 use Rattle.link_state.specs.declared.Link.{Link}
-use Rattle.link_turns.specs.Moves.{detected, Move}
-use Rattle.link_turns.specs.Turns.{broken, listens}
+use Rattle.link_events.specs.Moves.{detected, Move}
+use Rattle.link_events.specs.Turns.{broken, listens}
 use Rattle.link.specs.Answers.{done, refusing}
 use Rattle.link_claims.specs.Calls.{Call, tickOf, bufferOf, step}
 use Rattle.link_claims.specs.Refusals.{refusalOf}

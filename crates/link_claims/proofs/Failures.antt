@@ -16,8 +16,8 @@ use Rattle.link_refusals.specs.Refusals.{checks, sendChecks}
 use Rattle.link_state.specs.declared.Link.{Link}
 use Rattle.link_state.specs.declared.Phase.{Phase}
 use Rattle.link_state.specs.declared.Phase.the-variants.{Start, Baud, Open}
-use Rattle.link_turns.specs.Moves.{Move}
-use Rattle.link_turns.specs.Turns.{answers, listens}
+use Rattle.link_events.specs.Moves.{Move}
+use Rattle.link_events.specs.Turns.{answers, listens}
 use Rattle.link.specs.Answers.{done, refusing, sentBy}
 use Rattle.link_claims.specs.Calls.{Call, pull, byte, poll, send, tickOf, bufferOf, step}
 use Rattle.link_claims.specs.Refusals.{tableOf, refusalOf}

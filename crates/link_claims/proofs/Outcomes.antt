@@ -11,8 +11,8 @@ use Rattle.link_frames.specs.Frames.{frameOf, heartbeat, status, dataFrame}
 use Rattle.link_state.specs.Link.{fresh, inBaud, renewed}
 use Rattle.link_state.specs.Silence.{lost, checked}
 use Rattle.link_state.specs.declared.Link.{Link}
-use Rattle.link_turns.specs.Moves.{Saying, nothing, opened, handed, detected, refused, ended, Move}
-use Rattle.link_turns.specs.Turns.{quiet, answers, broken, pulled, listens}
+use Rattle.link_events.specs.Moves.{Saying, nothing, opened, handed, detected, refused, ended, Move}
+use Rattle.link_events.specs.Turns.{quiet, answers, broken, pulled, listens}
 use Rattle.link_claims.specs.Calls.{Call, pull, byte, poll, send, tickOf}
 use Rattle.link_claims.specs.Errors.{showsError}
 use Rattle.link_claims.specs.Failures.{failureOf}

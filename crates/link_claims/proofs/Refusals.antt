@@ -4,7 +4,7 @@ use mathlib.Core.Path.{_≡_, refl, sym, _∙_}
 use mathlib.Core.Bool.{Bool}
 use Rattle.link_state.specs.Link.{fresh}
 use Rattle.link_state.specs.declared.Link.{Link}
-use Rattle.link_turns.specs.Moves.{refused, Move}
+use Rattle.link_events.specs.Moves.{refused, Move}
 use Rattle.link.specs.Answers.{done, refusing}
 use Rattle.link_claims.specs.Calls.{Call, bufferOf, step, after}
 use Rattle.link_claims.specs.Refusals.{refusalOf, LinkRefusedChangesNothing}

@@ -17,8 +17,8 @@ use Rattle.link_refusals.proofs.Sound.{checks-passed}
 use Rattle.link_state.specs.declared.Link.{Link}
 use Rattle.link_state.specs.declared.Phase.{Phase}
 use Rattle.link_state.specs.declared.Phase.the-variants.{Start, Baud, Open}
-use Rattle.link_turns.specs.Moves.{detected, Move}
-use Rattle.link_turns.specs.Turns.{pulled}
+use Rattle.link_events.specs.Moves.{detected, Move}
+use Rattle.link_events.specs.Turns.{pulled}
 use Rattle.link.specs.Answers.{done, refusing}
 use Rattle.link.specs.Hearing.{received}
 use Rattle.link_claims.specs.Calls.{Call, pull, byte, poll, send, tickOf, step, after}

@@ -21,7 +21,7 @@ use Rattle.link_state.specs.Rates.{onList}
 use Rattle.link_refusals.specs.Sound.{fitsPhase, holderGood, sound}
 use Rattle.link_refusals.specs.Refusals.{shortestBuffer, checks, sendChecks}
 use Rattle.link_refusals.proofs.Sound.{held-good}
-use Rattle.link_turns.specs.Turns.{pulled, listens}
+use Rattle.link_events.specs.Turns.{pulled, listens}
 use Rattle.link.specs.Answers.{done, refusing}
 use Rattle.link.specs.Hearing.{received}
 use Rattle.link.proofs.Kept.{held-kept, zero-kept, length-kept}

@@ -8,7 +8,7 @@ use Rattle.link_frames.specs.Frames.{mostData}
 use Rattle.link_state.specs.Silence.{checked}
 use Rattle.link_state.specs.Rates.{onList}
 use Rattle.link_state.specs.declared.Link.{Link}
-use Rattle.link_turns.specs.Moves.{Saying, nothing, opened, handed, failed, detected, refused, ended}
+use Rattle.link_events.specs.Moves.{Saying, nothing, opened, handed, failed, detected, refused, ended}
 use Rattle.link.specs.Answers.{done, refusing}
 use Rattle.link_claims.specs.Calls.{Call, pull, byte, poll, send, step}
 use Rattle.link_claims.specs.Tells.{TellsOnly}

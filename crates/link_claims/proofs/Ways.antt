@@ -17,9 +17,9 @@ use Rattle.link_state.specs.Rates.{onList}
 use Rattle.link_state.specs.declared.Link.{Link}
 use Rattle.link_state.specs.declared.Phase.{Phase}
 use Rattle.link_state.specs.declared.Phase.the-variants.{Start, Baud, Open}
-use Rattle.link_turns.specs.Moves.{opened, handed, ended, Move, move, padded}
-use Rattle.link_turns.specs.Turns.{quiet, answers, tells, broken, pulled, listens}
-use Rattle.link_whole.specs.Whole.{baudFrame, statusFrame, controlFrame, takenData, openFrame}
+use Rattle.link_events.specs.Moves.{opened, handed, ended, Move, move, padded}
+use Rattle.link_events.specs.Turns.{quiet, answers, tells, broken, pulled, listens}
+use Rattle.link_effects.specs.Whole.{baudFrame, statusFrame, controlFrame, takenData, openFrame}
 use Rattle.link.specs.Answers.{Step, done, refusing}
 use Rattle.link.specs.Hearing.{wholeFrame, heard, received}
 use Rattle.link.specs.Step.{call, pullStep, byteStep, pollStep, sendStep}

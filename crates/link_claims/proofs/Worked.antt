@@ -13,9 +13,9 @@ use Rattle.link_state.specs.Silence.{lost, checked}
 use Rattle.link_state.specs.Rates.{onList}
 use Rattle.link_refusals.specs.Sound.{fitsPhase, holderGood, sound}
 use Rattle.link_refusals.specs.Refusals.{checks}
-use Rattle.link_turns.specs.Moves.{padded}
-use Rattle.link_turns.specs.Turns.{pulled, listens}
-use Rattle.link_whole.specs.Whole.{baudFrame, controlFrame, openFrame}
+use Rattle.link_events.specs.Moves.{padded}
+use Rattle.link_events.specs.Turns.{pulled, listens}
+use Rattle.link_effects.specs.Whole.{baudFrame, controlFrame, openFrame}
 use Rattle.link.specs.Answers.{done}
 use Rattle.link.specs.Hearing.{wholeFrame, heard, received}
 use Rattle.link.specs.Step.{call, pullStep, byteStep}

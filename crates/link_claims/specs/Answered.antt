@@ -3,7 +3,7 @@ use mathlib.Core.List.{List, [], _∷_}
 use mathlib.Core.Bool.{Bool}
 use Prim.Native.Nat.{ℕ}
 use Rattle.link_state.specs.declared.Link.{Link}
-use Rattle.link_turns.specs.Moves.{Saying}
+use Rattle.link_events.specs.Moves.{Saying}
 use Rattle.link.specs.Answers.{Step, sentBy}
 use Rattle.link_claims.specs.Calls.{Call, step}
 

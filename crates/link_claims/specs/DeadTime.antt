@@ -4,7 +4,7 @@ use mathlib.Core.Bool.{true}
 use mathlib.Core.Logic.{_⊎_}
 use Prim.Native.Nat.{ℕ}
 use Rattle.link_state.specs.declared.Link.{Link}
-use Rattle.link_turns.specs.Moves.{opened}
+use Rattle.link_events.specs.Moves.{opened}
 use Rattle.link_claims.specs.Calls.{Call, tickOf, step}
 
 -- whatever the record and the call: where dead time runs after a call, it ran before and the tick that it counts from is the same, or the call told

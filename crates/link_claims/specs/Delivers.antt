@@ -10,7 +10,7 @@ use Rattle.link_state.specs.Link.{renewed, withOutstanding}
 use Rattle.link_refusals.specs.Refusals.{shortestBuffer}
 use Rattle.link_state.specs.declared.Link.{Link}
 use Rattle.link_state.specs.declared.Phase.the-variants.{Open}
-use Rattle.link_turns.specs.Moves.{nothing, handed, ended, padded}
+use Rattle.link_events.specs.Moves.{nothing, handed, ended, padded}
 use Rattle.link_claims.specs.Calls.{Call, pull, byte, poll, send, step, after}
 use Rattle.link_claims.specs.Sound.{SoundLink}
 use Rattle.link_claims.specs.Answered.{Answer, answerOf, answersTo}

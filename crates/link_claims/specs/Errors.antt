@@ -10,8 +10,8 @@ use Rattle.link_frames.specs.Reading.{reading, byReading}
 use Rattle.link_state.specs.Link.{byPhase, heldOf, fresh}
 use Rattle.link_state.specs.Silence.{checked}
 use Rattle.link_state.specs.declared.Link.{Link}
-use Rattle.link_turns.specs.Moves.{detected, padded}
-use Rattle.link_turns.specs.Turns.{listens}
+use Rattle.link_events.specs.Moves.{detected, padded}
+use Rattle.link_events.specs.Turns.{listens}
 use Rattle.link.specs.Answers.{Step}
 use Rattle.link_claims.specs.Calls.{Call, pull, byte, poll, send, bufferOf, step}
 use Rattle.link_claims.specs.Refusals.{refusalOf}

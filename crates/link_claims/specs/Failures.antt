@@ -12,7 +12,7 @@ use Rattle.link_state.specs.Link.{byPhase, heldOf, atRest}
 use Rattle.link_state.specs.Silence.{checked}
 use Rattle.link_state.specs.Rates.{onList}
 use Rattle.link_state.specs.declared.Link.{Link}
-use Rattle.link_turns.specs.Moves.{nothing, padded}
+use Rattle.link_events.specs.Moves.{nothing, padded}
 use Rattle.link.specs.Answers.{Step, sentBy}
 use Rattle.link_claims.specs.Calls.{Call, pull, byte, poll, send, tickOf, bufferOf, step}
 use Rattle.link_claims.specs.Refusals.{refusalOf}

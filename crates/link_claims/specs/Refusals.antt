@@ -9,7 +9,7 @@ use Rattle.link_state.specs.Silence.{checked}
 use Rattle.link_refusals.specs.Sound.{sound}
 use Rattle.link_refusals.specs.Refusals.{checks, sendChecks}
 use Rattle.link_state.specs.declared.Link.{Link}
-use Rattle.link_turns.specs.Moves.{refused}
+use Rattle.link_events.specs.Moves.{refused}
 use Rattle.link.specs.Answers.{refusing}
 use Rattle.link_claims.specs.Calls.{Call, pull, byte, poll, send, tickOf, bufferOf, step}
 

@@ -11,7 +11,7 @@ use Rattle.link_state.specs.Link.{fresh}
 use Rattle.link_state.specs.Silence.{lost, checked}
 use Rattle.link_state.specs.declared.Link.{Link}
 use Rattle.link_state.specs.declared.Phase.the-variants.{Start}
-use Rattle.link_turns.specs.Moves.{detected}
+use Rattle.link_events.specs.Moves.{detected}
 use Rattle.link.specs.Answers.{Step}
 use Rattle.link_claims.specs.Calls.{Call, tickOf, step, after}
 use Rattle.link_claims.specs.Refusals.{refusalOf}

@@ -7,7 +7,7 @@ use Rattle.link_frames.specs.Frames.{mostContents}
 use Rattle.link_state.specs.Link.{fresh}
 use Rattle.link_refusals.specs.Sound.{sound}
 use Rattle.link_state.specs.declared.Link.{Link}
-use Rattle.link_turns.specs.Moves.{refused}
+use Rattle.link_events.specs.Moves.{refused}
 use Rattle.link_claims.specs.Calls.{Call, step, after}
 
 -- a link that starts fresh is never refused with 5: whatever the calls, their ticks and their buffers, the next call does not refuse the record so

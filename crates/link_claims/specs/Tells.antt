@@ -5,7 +5,7 @@ use Prim.Native.Nat.{ℕ, _≤_}
 use Rattle.link_frames.specs.Frames.{mostData}
 use Rattle.link_state.specs.Rates.{onList}
 use Rattle.link_state.specs.declared.Link.{Link}
-use Rattle.link_turns.specs.Moves.{opened, handed, failed}
+use Rattle.link_events.specs.Moves.{opened, handed, failed}
 use Rattle.link_claims.specs.Calls.{Call, step}
 
 -- whatever the record and the call: a rate is on the list, data is at most 64 bytes, a failure is 1 or 2

@@ -3,8 +3,8 @@
 use libc::STDERR_FILENO;
 use libc::STDIN_FILENO;
 use libc::STDOUT_FILENO;
-use report::Listed;
-use report::Listing;
+use listing_report::Listed;
+use listing_report::Listing;
 
 // The lines of one write: some 40 of them. Captures fill it often, so that a full text is no rare case.
 const TEXT: usize = 512;
@@ -45,7 +45,7 @@ fn list_run(
     let mut state = listing;
     let mut i: usize = 0;
     while i < input.len() {
-        let listed = report::feed_run(
+        let listed = listing_report::feed_run(
             state,
             &input[i..],
             packet,
@@ -123,12 +123,12 @@ fn list_some(
 // Lists an open input. A proved loop has to end, and nothing says that an input does. So the loop counts its reads down, from a
 // number that no run uses up.
 fn list_all(fd: i32, name: &[u8]) {
-    let mut packet = [0u8; framing::LONGEST];
+    let mut packet = [0u8; slip_framing::LONGEST];
     let mut answer = [0u8; loader::LONGEST_ANSWER];
     let mut flash = [0xFFu8; 65536];
     let mut words = [0u32; 4096];
-    let mut state = report::new();
-    let heading = report::heading();
+    let mut state = listing_report::new();
+    let heading = listing_report::heading();
     let mut goes_on = write_out(&heading);
     let mut reads = u64::MAX;
     while goes_on && reads > 0 {

@@ -9,37 +9,37 @@ use borrow.Author.Tests.{eq-eqb, ne-eqb}
 use lib.Dec.{leb, eqb}
 use lib.ListN.{length, take, getD}
 use lib.Seq.{length-take-le}
-use Rattle.unframing.specs.Reasons.{whole}
-use Rattle.packets.specs.Packets.{Packet, dropped, read, header}
-use Rattle.unframing.specs.Line.{Closed, Step as ByteStep, stepOf, closedBy}
-use Rattle.unframing.specs.declared.Closing.the-variants.{Open, Whole, Broken}
-use Rattle.unframing.specs.declared.Reason.{Reason}
-use Rattle.unframing.specs.declared.Reason.the-variants.{TooShort, WrongDirection}
-use Rattle.runs.specs.Run.{still, stopped, ahead, stopOrGo, runOf, Runs}
-use Rattle.runs.specs.declared.Ran.{Ran}
-use Rattle.runs.proofs.Kept.{run-within}
-use Rattle.commands.specs.Header.{command}
-use Rattle.sessions.specs.Session.{sessionGood}
+use Rattle.slip_unframing.specs.Reasons.{whole}
+use Rattle.slip_packets.specs.Packets.{Packet, dropped, read, header}
+use Rattle.slip_unframing.specs.Line.{Closed, Step as ByteStep, stepOf, closedBy}
+use Rattle.slip_unframing.specs.declared.Closing.the-variants.{Open, Whole, Broken}
+use Rattle.slip_unframing.specs.declared.Reason.{Reason}
+use Rattle.slip_unframing.specs.declared.Reason.the-variants.{TooShort, WrongDirection}
+use Rattle.slip_runs.specs.Run.{still, stopped, ahead, stopOrGo, runOf, Runs}
+use Rattle.slip_runs.specs.declared.Ran.{Ran}
+use Rattle.slip_runs.proofs.Kept.{run-within}
+use Rattle.esp_commands.specs.Header.{command}
+use Rattle.loader_sessions.specs.Session.{sessionGood}
 use Rattle.loader_state.specs.Refusals.{refusal}
-use Rattle.answers.specs.Answer.{bodyBytes, answerBytes}
-use Rattle.answers.specs.Reply.{longestAnswer, Replies}
-use Rattle.answers.proofs.Replies.{sent-whole, laid-whole}
-use Rattle.effects.specs.Core.{lengths}
-use Rattle.effects.specs.Handle.{handle, obeyed, Does}
-use Rattle.effects.proofs.Bodies.{short}
-use Rattle.effects.proofs.Handled.{obeyed-handled}
+use Rattle.loader_answers.specs.Answer.{bodyBytes, answerBytes}
+use Rattle.loader_answers.specs.Reply.{longestAnswer, Replies}
+use Rattle.loader_answers.proofs.Replies.{sent-whole, laid-whole}
+use Rattle.loader_effects.specs.Core.{lengths}
+use Rattle.loader_effects.specs.Handle.{handle, obeyed, Does}
+use Rattle.loader_effects.proofs.Bodies.{short}
+use Rattle.loader_effects.proofs.Handled.{obeyed-handled}
 use Rattle.loader.specs.RunStep.{runStep, taking, refusingRun, FeedsRun}
 use Rattle.loader.specs.Step.{told, Feeds, step, refusing, afterByte, afterPacket, coreOf, bufferLengths, answerBuffer, toldOf}
-use Rattle.headers.specs.Classified.{classified}
+use Rattle.esp_header.specs.Classified.{classified}
 use Rattle.loader.specs.Parts.{Acts}
 use Rattle.loader_state.specs.declared.Loader.{Loader}
 use Rattle.loader.specs.declared.Answer.the-variants.{Refused, Taken, Dropped, Answered}
 use Rattle.loader.specs.declared.Fed.{Fed}
 use Rattle.loader.specs.declared.RunFed.{RunFed}
-use Rattle.effects.specs.declared.Done.{Done}
+use Rattle.loader_effects.specs.declared.Done.{Done}
 use Rattle.loader.proofs.Judged.{judged-once}
-use Rattle.headers.specs.declared.Packet.the-variants as code
-use Rattle.headers.specs.declared.Packet as code-packet
+use Rattle.esp_header.specs.declared.Packet.the-variants as code
+use Rattle.esp_header.specs.declared.Packet as code-packet
 
 -- ---- a whole packet
 

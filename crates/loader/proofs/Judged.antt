@@ -5,7 +5,7 @@ use mathlib.Core.Bool.{cond}
 use Prim.Native.Nat.{ℕ}
 use borrow.Author.Tests.{ne-eqb}
 use lib.Dec.{eqb}
-use Rattle.runs.specs.Run.{runOf}
+use Rattle.slip_runs.specs.Run.{runOf}
 use Rattle.loader_state.specs.Refusals.{refusal}
 use Rattle.loader_state.specs.declared.Loader.{Loader}
 use Rattle.loader.specs.Step.{bufferLengths}

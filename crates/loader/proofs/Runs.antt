@@ -7,12 +7,12 @@ use mathlib.Core.Option.{Option, none, some}
 use native.Mathlib.Omega.{arith}
 use lib.Dec.{eqb}
 use lib.ListN.{length}
-use Rattle.unframing.specs.Line.{Closed, Step as ByteStep, stepOf}
-use Rattle.unframing.specs.declared.Line.{Line}
-use Rattle.unframing.proofs.Kept.{step-keeps}
-use Rattle.runs.specs.Run.{runOf}
-use Rattle.runs.proofs.Passing.{goes, stops}
-use Rattle.runs.proofs.Theorems.{takes-most, takes-some}
+use Rattle.slip_unframing.specs.Line.{Closed, Step as ByteStep, stepOf}
+use Rattle.slip_unframing.specs.declared.Line.{Line}
+use Rattle.slip_unframing.proofs.Kept.{step-keeps}
+use Rattle.slip_runs.specs.Run.{runOf}
+use Rattle.slip_runs.proofs.Passing.{goes, stops}
+use Rattle.slip_runs.proofs.Theorems.{takes-most, takes-some}
 use Rattle.loader_state.specs.Refusals.{refusal}
 use Rattle.loader.specs.Step.{refused, taken, keeping, refusing, afterByte, bufferLengths, step}
 use Rattle.loader.specs.RunStep.{RunStep, runStep, taking, refusingRun}

@@ -2,7 +2,7 @@
 use Prim.Native.Nat.{ℕ}
 use mathlib.Core.Path.{_≡_}
 use mathlib.Core.List.{List}
-use Rattle.effects.specs.Handle.{Handled}
+use Rattle.loader_effects.specs.Handle.{Handled}
 use Rattle.loader.specs.Step.{told, toldOf, answerBuffer}
 use Rattle.loader_state.specs.declared.Loader.{Loader}
 use Rattle.loader.specs.declared.Fed.{Fed}

@@ -4,7 +4,7 @@ use mathlib.Core.Path.{_≡_}
 use mathlib.Core.List.{List}
 use mathlib.Core.Bool.{cond}
 use lib.Dec.{eqb}
-use Rattle.runs.specs.Run.{Run, runOf}
+use Rattle.slip_runs.specs.Run.{Run, runOf}
 use Rattle.loader_state.specs.Refusals.{refusal}
 use Rattle.loader.specs.Step.{Step, told, refusing, afterByte, bufferLengths}
 use Rattle.loader_state.specs.declared.Loader.{Loader}

@@ -7,16 +7,16 @@ use mathlib.Core.Option.{Option, none, some}
 use lib.ListN.{length}
 use lib.Dec.{eqb}
 use Rattle.lists.specs.Lay.{lay}
-use Rattle.framing.specs.Frame.{framed}
-use Rattle.packets.specs.Packets.{header}
-use Rattle.unframing.specs.Line.{stepOf, Closed as ClosedPacket}
-use Rattle.unframing.specs.declared.Line.{Line}
-use Rattle.unframing.specs.declared.Reason.{Reason}
+use Rattle.slip_framing.specs.Frame.{framed}
+use Rattle.slip_packets.specs.Packets.{header}
+use Rattle.slip_unframing.specs.Line.{stepOf, Closed as ClosedPacket}
+use Rattle.slip_unframing.specs.declared.Line.{Line}
+use Rattle.slip_unframing.specs.declared.Reason.{Reason}
 use Rattle.loader_state.specs.Refusals.{BufferLengths, refusal}
-use Rattle.answers.specs.Answer.{statusOf, answerBytes}
-use Rattle.effects.specs.Core.{Core}
-use Rattle.notes.specs.Notes.{Order, noted}
-use Rattle.effects.specs.Handle.{Reply, nothing, replied, Handled, handle}
+use Rattle.loader_answers.specs.Answer.{statusOf, answerBytes}
+use Rattle.loader_effects.specs.Core.{Core}
+use Rattle.loader_notes.specs.Notes.{Order, noted}
+use Rattle.loader_effects.specs.Handle.{Reply, nothing, replied, Handled, handle}
 use Rattle.loader_state.specs.declared.Loader.{Loader}
 use Rattle.loader.specs.declared.Answer.{Answer}
 use Rattle.loader.specs.declared.Answer.the-variants as code

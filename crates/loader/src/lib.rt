@@ -1,23 +1,23 @@
 // The chip's end of the ESP serial protocol: the call that is made with each run of received bytes.
-pub use answers::LONGEST_ANSWER;
-use headers::Packet;
-use headers::read_packet;
+use esp_header::Packet;
+use esp_header::read_packet;
+pub use loader_answers::LONGEST_ANSWER;
+pub use loader_notes::Note;
+pub use loader_sessions::Session;
 pub use loader_state::Loader;
 pub use loader_state::new;
 use loader_state::refusal_of;
-pub use notes::Note;
-pub use sessions::Session;
-use unframing::Closing;
-pub use unframing::Reason;
+use slip_unframing::Closing;
+pub use slip_unframing::Reason;
 ghost use mathlib.Core.Path.{_≡_};
 ghost use mathlib.Core.Bool.{true};
 ghost use Prim.Native.Nat.{_≤_};
 ghost use lib.ListN.{length};
-ghost use Rattle.unframing.specs.Reasons.{whole};
-ghost use Rattle.packets.specs.Packets.{header};
-ghost use Rattle.sessions.specs.Session.{sessionGood};
-ghost use Rattle.effects.specs.Handle.{handle};
-ghost use Rattle.answers.specs.Reply.{longestAnswer};
+ghost use Rattle.slip_unframing.specs.Reasons.{whole};
+ghost use Rattle.slip_packets.specs.Packets.{header};
+ghost use Rattle.loader_sessions.specs.Session.{sessionGood};
+ghost use Rattle.loader_effects.specs.Handle.{handle};
+ghost use Rattle.loader_answers.specs.Reply.{longestAnswer};
 ghost use Rattle.loader.specs.Step.{step, Feeds, coreOf};
 ghost use Rattle.loader.specs.RunStep.{runStep, FeedsRun};
 ghost use Rattle.loader.specs.Parts.{Acts};
@@ -90,10 +90,10 @@ fn act(loader: Loader, packet: &[u8], answer: &mut [u8], flash: &mut [u8], words
         };
     };
     let session = loader.session;
-    let done = effects::obey(packet, session, loader.attach, flash, words);
+    let done = loader_effects::obey(packet, session, loader.attach, flash, words);
     let error = done.error;
     let body = done.body;
-    let sent = answers::reply(command, error, done.value, body, answer);
+    let sent = loader_answers::reply(command, error, done.value, body, answer);
     let line = loader.line;
     let next = done.session;
     let note = done.note;
@@ -141,7 +141,7 @@ pub fn feed_run(
     }
     let line = loader.line;
     let session = loader.session;
-    let ran = runs::run(line, run, packet);
+    let ran = slip_runs::run(line, run, packet);
     let taken = ran.taken;
     let after = ran.line;
     let closing = ran.closing;

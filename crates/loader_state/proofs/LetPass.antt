@@ -8,9 +8,9 @@ use lib.Dec.{leb}
 use Rattle.lists.specs.Checks.{_orElse_}
 use Rattle.lists.proofs.Tests.{both, Passed, first-passed, passed-first}
 use Rattle.pins.specs.Pins.{attachGood}
-use Rattle.framing.specs.Frame.{longest}
-use Rattle.sessions.specs.Session.{sessionGood}
-use Rattle.answers.specs.Reply.{longestAnswer}
+use Rattle.slip_framing.specs.Frame.{longest}
+use Rattle.loader_sessions.specs.Session.{sessionGood}
+use Rattle.loader_answers.specs.Reply.{longestAnswer}
 use Rattle.loader_state.specs.Refusals.{BufferLengths, lengthsOf, bufferChecks, recordGood, refusal}
 use Rattle.loader_state.specs.declared.Loader.{Loader}
 

@@ -5,11 +5,11 @@ use Prim.Native.Nat.{ℕ, _%_}
 use lib.Dec.{leb, eqb}
 use Rattle.lists.specs.Checks.{Check, _orElse_, first}
 use Rattle.pins.specs.Pins.{attachGood}
-use Rattle.framing.specs.Frame.{longest}
-use Rattle.begins.specs.Begin.{sector}
-use Rattle.begins.specs.declared.Lengths.{Lengths}
-use Rattle.sessions.specs.Session.{sessionGood}
-use Rattle.answers.specs.Reply.{longestAnswer}
+use Rattle.slip_framing.specs.Frame.{longest}
+use Rattle.esp_begin.specs.Begin.{sector}
+use Rattle.esp_begin.specs.declared.Lengths.{Lengths}
+use Rattle.loader_sessions.specs.Session.{sessionGood}
+use Rattle.loader_answers.specs.Reply.{longestAnswer}
 use Rattle.loader_state.specs.declared.Loader.{Loader}
 
 -- the lengths of what a call lends: packet buffer, answer buffer, flash, words

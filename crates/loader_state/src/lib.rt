@@ -1,12 +1,12 @@
 // The loader's record, and refusals 1 to 5.
-use answers::LONGEST_ANSWER;
-use begins::Lengths;
-use begins::SECTOR;
-use framing::LONGEST;
+use esp_begin::Lengths;
+use esp_begin::SECTOR;
 use lists::check;
-use sessions::Session;
-use sessions::session_good;
-use unframing::Line;
+use loader_answers::LONGEST_ANSWER;
+use loader_sessions::Session;
+use loader_sessions::session_good;
+use slip_framing::LONGEST;
+use slip_unframing::Line;
 ghost use mathlib.Core.Path.{_≡_};
 ghost use Rattle.loader_state.specs.Record.{freshLoader};
 ghost use Rattle.loader_state.specs.Refusals.{flashLength, wordCount, recordGood, refusal};
@@ -23,7 +23,7 @@ pub fn new() -> Loader
     ensures { λ r. ⌜ r ≡ freshLoader ⌝ }
 {
     Loader {
-        line: unframing::new(),
+        line: slip_unframing::new(),
         session: Session::Closed,
         attach: 0,
     }

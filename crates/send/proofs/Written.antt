@@ -9,9 +9,9 @@ use lib.Dec.{eqb}
 use lib.ListN.{length}
 use Rattle.lists.specs.Lay.{lay}
 use Rattle.lists.proofs.Tests.{first-passed}
-use Rattle.framing.specs.Frame.{framed, wrote, refused, frameReport, Framing}
-use Rattle.framing.specs.declared.Framed.{Framed}
-use Rattle.framing.specs.declared.Framed.the-variants.{Written}
+use Rattle.slip_framing.specs.Frame.{framed, wrote, refused, frameReport, Framing}
+use Rattle.slip_framing.specs.declared.Framed.{Framed}
+use Rattle.slip_framing.specs.declared.Framed.the-variants.{Written}
 use Rattle.sender.specs.Packets.{packetOf}
 use Rattle.sender.specs.Sending.{loadChecks, refusal, sending}
 

@@ -1,12 +1,12 @@
 // Writes a load into flash to standard output, framed, packet by packet: what a bench sends to the loader. The image is a file; its
 // offset, the block size and the flash length are numbers, decimal or hexadecimal behind 0x. Nothing is written unless the load is accepted.
-use framing::Framed;
 use libc::STDERR_FILENO;
 use libc::STDOUT_FILENO;
 use loader_state::LONGEST_FLASH;
-use numbers::Number;
 use sender::Count;
 use sender::LONGEST_FRAME;
+use sender_numbers::Number;
+use slip_framing::Framed;
 
 // One byte more than the longest flash: of a longer file so much is read, and that fits no flash.
 const IMAGE_SPACE: usize = LONGEST_FLASH + 1;
@@ -132,7 +132,7 @@ fn number_at(i: usize) -> Number {
     if os::errno() != 0 {
         return Number::Wrong;
     }
-    numbers::read(&text[..n])
+    sender_numbers::read(&text[..n])
 }
 
 // Takes the arguments, of which there are four.

@@ -5,8 +5,8 @@ use Prim.Native.Nat.{ℕ, zero, suc, _-_, _≤_, _<_}
 use native.Mathlib.Omega.{arith}
 use borrow.Author.Tests.{lt-ltb, le-ltb}
 use lib.ListN.{length}
-use Rattle.begins.specs.Count.{countOf}
-use Rattle.requests.specs.Requests.{syncPacket, beginPacket, endPacket}
+use Rattle.esp_begin.specs.Count.{countOf}
+use Rattle.esp_requests.specs.Requests.{syncPacket, beginPacket, endPacket}
 use Rattle.sender.specs.Load.{announces}
 use Rattle.sender.specs.Packets.{blockPacket, packetOf}
 

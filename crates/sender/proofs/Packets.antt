@@ -6,10 +6,10 @@ use Prim.Native.Nat.{ℕ, zero, suc, _-_, _*_, _≤_, min}
 use native.Mathlib.Omega.{arith}
 use lib.Dec.{ltb}
 use lib.ListN.{length, length-take, length-drop}
-use Rattle.begins.specs.Begin.{largestBlock}
-use Rattle.begins.specs.Count.{countOf}
-use Rattle.requests.specs.Requests.{endPacket}
-use Rattle.requests.proofs.Lengths.{Frameable, full-length, sync-frameable, begin-frameable, data-frameable, end-frameable}
+use Rattle.esp_begin.specs.Begin.{largestBlock}
+use Rattle.esp_begin.specs.Count.{countOf}
+use Rattle.esp_requests.specs.Requests.{endPacket}
+use Rattle.esp_requests.proofs.Lengths.{Frameable, full-length, sync-frameable, begin-frameable, data-frameable, end-frameable}
 use Rattle.sender.specs.Load.{announces}
 use Rattle.sender.specs.Packets.{piece, blockData, blockPacket, packetOf}
 

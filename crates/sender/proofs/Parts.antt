@@ -6,12 +6,12 @@ use native.Mathlib.Nat.{mul-le-mul-right}
 use native.Mathlib.Omega.{arith}
 use lib.ListN.{length, take, drop, length-drop}
 use Rattle.lists.proofs.Cuts.{cut-same}
-use Rattle.begins.specs.Begin.{reached}
-use Rattle.begins.specs.Count.{countOf}
-use Rattle.begins.specs.declared.Begin.{Begin}
-use Rattle.begins.proofs.Count.{count-fills}
-use Rattle.begins.proofs.Sectors.{next-block}
-use Rattle.requests.specs.Requests.{padded, dataPacket}
+use Rattle.esp_begin.specs.Begin.{reached}
+use Rattle.esp_begin.specs.Count.{countOf}
+use Rattle.esp_begin.specs.declared.Begin.{Begin}
+use Rattle.esp_begin.proofs.Count.{count-fills}
+use Rattle.esp_begin.proofs.Sectors.{next-block}
+use Rattle.esp_requests.specs.Requests.{padded, dataPacket}
 use Rattle.sender.specs.Load.{announces}
 use Rattle.sender.specs.Packets.{piece, blockData, blockPacket}
 use Rattle.sender.specs.Parts.{HasBlock}

@@ -9,11 +9,11 @@ use lib.Dec.{leb, ltb, eqb}
 use lib.ListN.{length}
 use Rattle.lists.specs.Checks.{Check, _orElse_, first}
 use Rattle.lists.proofs.Tests.{first-append}
-use Rattle.framing.specs.Frame.{framed, refused, wrote, Framing, framing, Frames}
-use Rattle.framing.specs.declared.Framed.{Framed}
-use Rattle.framing.proofs.Refusals.{framing-short, framing-written}
-use Rattle.begins.specs.Count.{countOf}
-use Rattle.requests.proofs.Lengths.{Frameable}
+use Rattle.slip_framing.specs.Frame.{framed, refused, wrote, Framing, framing, Frames}
+use Rattle.slip_framing.specs.declared.Framed.{Framed}
+use Rattle.slip_framing.proofs.Refusals.{framing-short, framing-written}
+use Rattle.esp_begin.specs.Count.{countOf}
+use Rattle.esp_requests.proofs.Lengths.{Frameable}
 use Rattle.sender.specs.Load.{packetCount}
 use Rattle.sender.specs.Packets.{packetOf}
 use Rattle.sender.specs.Sending.{loadChecks, loadRefusal, refusal, sending, no-total, total, counting}

@@ -7,10 +7,10 @@ use native.Mathlib.Omega.{arith}
 use borrow.Author.Tests.{leb-true}
 use lib.Dec.{leb, eqb}
 use Rattle.lists.proofs.Tests.{both, first-passed}
-use Rattle.begins.specs.Begin.{sector, largestBlock, roundUp, flashRule}
-use Rattle.begins.specs.Count.{countOf}
-use Rattle.begins.proofs.Rules.{ruled}
-use Rattle.begins.proofs.Sectors.{next-block, round-le}
+use Rattle.esp_begin.specs.Begin.{sector, largestBlock, roundUp, flashRule}
+use Rattle.esp_begin.specs.Count.{countOf}
+use Rattle.esp_begin.proofs.Rules.{ruled}
+use Rattle.esp_begin.proofs.Sectors.{next-block, round-le}
 use Rattle.loader_state.specs.Refusals.{flashLength}
 use Rattle.sender.specs.Load.{announces, InWords}
 use Rattle.sender.specs.Sending.{loadChecks, loadRefusal}

@@ -8,11 +8,11 @@ use borrow.Author.Tests.{eq-eqb, eqb-true, eqb-false, ne-eqb, le-leb, ltb-true, 
 use lib.Dec.{eqb, ltb}
 use lib.ListN.{length}
 use Rattle.lists.specs.Checks.{first}
-use Rattle.framing.specs.Frame.{longestFrame, framed}
-use Rattle.framing.proofs.Escapes.{length-framed, escaped-most}
-use Rattle.begins.specs.Begin.{flashRule}
-use Rattle.begins.specs.Count.{countOf}
-use Rattle.begins.proofs.Count.{count-empty}
+use Rattle.slip_framing.specs.Frame.{longestFrame, framed}
+use Rattle.slip_framing.proofs.Escapes.{length-framed, escaped-most}
+use Rattle.esp_begin.specs.Begin.{flashRule}
+use Rattle.esp_begin.specs.Count.{countOf}
+use Rattle.esp_begin.proofs.Count.{count-empty}
 use Rattle.loader_state.specs.Refusals.{flashLength}
 use Rattle.sender.specs.Load.{announces, packetCount}
 use Rattle.sender.specs.Packets.{packetOf}

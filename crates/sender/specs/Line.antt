@@ -2,7 +2,7 @@
 use mathlib.Core.List.{List, [], _∷_, map}
 use Prim.Native.Nat.{ℕ, zero, suc, _+_}
 use lib.ListN.{length}
-use Rattle.framing.specs.Frame.{framedAll}
+use Rattle.slip_framing.specs.Frame.{framedAll}
 use Rattle.sender.specs.Load.{packetCount}
 use Rattle.sender.specs.Packets.{packetOf}
 

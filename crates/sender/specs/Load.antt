@@ -1,7 +1,7 @@
 -- What a load announces (request Six): FLASH_BEGIN's "size S, count n, block size b, offset", where S is the image's whole length.
 use Prim.Native.Nat.{ℕ, _+_, _^_, _<_}
-use Rattle.begins.specs.Count.{countOf}
-use Rattle.begins.specs.declared.Begin.{Begin}
+use Rattle.esp_begin.specs.Count.{countOf}
+use Rattle.esp_begin.specs.declared.Begin.{Begin}
 
 -- of an image of so many bytes; n is S/b rounded up
 unfoldable pub announces : (size offset block : ℕ) → Begin

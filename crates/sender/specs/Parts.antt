@@ -3,8 +3,8 @@ use mathlib.Core.Path.{_≡_}
 use mathlib.Core.List.{List}
 use Prim.Native.Nat.{ℕ, _≤_, _<_}
 use lib.ListN.{length}
-use Rattle.begins.specs.Count.{countOf}
-use Rattle.begins.specs.declared.Begin.{Begin}
+use Rattle.esp_begin.specs.Count.{countOf}
+use Rattle.esp_begin.specs.declared.Begin.{Begin}
 
 -- a BEGIN that announces the image, and a block k of it
 pub record HasBlock (g : Begin) (k : ℕ) (image : List ℕ) : Type 0 where

@@ -6,8 +6,8 @@ use lib.Dec.{leb, ltb, eqb}
 use lib.ListN.{length}
 use Rattle.lists.specs.Lay.{lay}
 use Rattle.lists.specs.Checks.{Check, _orElse_, first}
-use Rattle.framing.specs.Frame.{framed, wrote, refused, Framing}
-use Rattle.begins.specs.Begin.{flashRule}
+use Rattle.slip_framing.specs.Frame.{framed, wrote, refused, Framing}
+use Rattle.esp_begin.specs.Begin.{flashRule}
 use Rattle.loader_state.specs.Refusals.{flashLength}
 use Rattle.sender.specs.Load.{announces, packetCount}
 use Rattle.sender.specs.Packets.{packetOf}

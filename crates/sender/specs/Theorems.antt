@@ -3,8 +3,8 @@ use mathlib.Core.Path.{_≡_}
 use mathlib.Core.List.{List, [], _∷_}
 use Prim.Native.Nat.{ℕ, _≤_}
 use lib.ListN.{length}
-use Rattle.framing.specs.Frame.{longestFrame}
-use Rattle.requests.specs.Requests.{syncPacket, beginPacket, endPacket}
+use Rattle.slip_framing.specs.Frame.{longestFrame}
+use Rattle.esp_requests.specs.Requests.{syncPacket, beginPacket, endPacket}
 use Rattle.sender.specs.Load.{announces, InWords}
 use Rattle.sender.specs.Line.{packetsOf}
 use Rattle.sender.specs.Sending.{loadRefusal, refusal}

@@ -1,16 +1,16 @@
 // The sending end of a load into flash: its packets, framed, one by one.
-use begins::Begin;
-use begins::LARGEST_BLOCK;
-use begins::Lengths;
-use framing::Framed;
-pub use framing::LONGEST_FRAME;
+use esp_begin::Begin;
+use esp_begin::LARGEST_BLOCK;
+use esp_begin::Lengths;
 use lists::check;
 use loader_state::flash_length_good;
+use slip_framing::Framed;
+pub use slip_framing::LONGEST_FRAME;
 ghost use mathlib.Core.Path.{_≡_};
 ghost use Prim.Native.Nat.{_≤_};
 ghost use lib.ListN.{length};
-ghost use Rattle.framing.specs.Frame.{framing, Frames};
-ghost use Rattle.begins.specs.Begin.{flashRule};
+ghost use Rattle.slip_framing.specs.Frame.{framing, Frames};
+ghost use Rattle.esp_begin.specs.Begin.{flashRule};
 ghost use Rattle.sender.specs.Load.{announces};
 ghost use Rattle.sender.specs.Packets.{blockPacket};
 ghost use Rattle.sender.specs.Parts.{HasBlock};
@@ -30,7 +30,7 @@ fn announced(size: u32, offset: u32, block: u32) -> Begin
 {
     Begin {
         size,
-        count: begins::count_of(size, block),
+        count: esp_begin::count_of(size, block),
         block,
         offset,
     }
@@ -51,7 +51,7 @@ fn begin_good(size: usize, offset: usize, block: usize, flash: usize) -> bool
         return false;
     }
     let begin = announced(size as u32, offset as u32, block as u32);
-    begins::flash_good(Lengths { flash, words: 0 }, begin)
+    esp_begin::flash_good(Lengths { flash, words: 0 }, begin)
 }
 
 // The number that a load is refused with, 0 where it is not: 3 for the flash length, then 15 for its BEGIN.
@@ -70,9 +70,9 @@ fn send_block(begin: Begin, k: u32, image: &[u8], buffer: &mut [u8]) -> Framed
     ensures { λ r. ⌜ Frames (framing (blockPacket (now (image .entry)) (begin .block) k) (now (buffer .entry)))
         r (now (buffer .exit)) ⌝ }
 {
-    let from = begins::reach(begin, k) as usize;
-    let upto = begins::reach_after(begin, k) as usize;
-    requests::block(begin.block, k, &image[from..upto], buffer)
+    let from = esp_begin::reach(begin, k) as usize;
+    let upto = esp_begin::reach_after(begin, k) as usize;
+    esp_requests::block(begin.block, k, &image[from..upto], buffer)
 }
 
 // The packet with this number, from 0, framed at the front of the buffer: SYNC, FLASH_BEGIN, the blocks, FLASH_END. Refusals, in order: 3
@@ -94,18 +94,18 @@ pub fn packet(
         return Framed::Refused(refused);
     }
     if number == 0 {
-        return requests::sync(buffer);
+        return esp_requests::sync(buffer);
     }
     let begin = announced(image.len() as u32, offset as u32, block as u32);
     if number == 1 {
-        return requests::begin(begin, buffer);
+        return esp_requests::begin(begin, buffer);
     }
     let k = number - 2;
     if k < begin.count as usize {
         return send_block(begin, k as u32, image, buffer);
     }
     if k == begin.count as usize {
-        return requests::end(buffer);
+        return esp_requests::end(buffer);
     }
     Framed::Refused(16)
 }
@@ -118,5 +118,5 @@ pub fn packet_count(image: &[u8], offset: usize, block: usize, flash: usize) -> 
     if refused != 0 {
         return Count::Refused(refused);
     }
-    Count::Packets(begins::count_of(image.len() as u32, block as u32) as usize + 3)
+    Count::Packets(esp_begin::count_of(image.len() as u32, block as u32) as usize + 3)
 }

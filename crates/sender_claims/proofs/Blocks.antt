@@ -8,18 +8,18 @@ use lib.ListN.{length, take, length-append, length-replicate}
 use lib.Seq.{take-all, take-nil}
 use Rattle.lists.specs.Bytes.{IsBytes}
 use Rattle.lists.proofs.Laws.{length-lay}
-use Rattle.unframing.specs.Reasons.{whole}
-use Rattle.packets.specs.Packets.{header}
-use Rattle.begins.specs.Count.{countOf}
-use Rattle.begins.specs.declared.Begin.{Begin}
-use Rattle.begins.proofs.Sectors.{round-le}
-use Rattle.sessions.specs.declared.Session.the-variants.{Closed, Flash}
-use Rattle.history.proofs.Flash as history
-use Rattle.history.proofs.Flash.{loadedUpTo, nothing-loaded, block-loaded, loaded}
-use Rattle.effects.specs.Core.{Core}
-use Rattle.effects.specs.Handle.{handle}
+use Rattle.slip_unframing.specs.Reasons.{whole}
+use Rattle.slip_packets.specs.Packets.{header}
+use Rattle.esp_begin.specs.Count.{countOf}
+use Rattle.esp_begin.specs.declared.Begin.{Begin}
+use Rattle.esp_begin.proofs.Sectors.{round-le}
+use Rattle.loader_sessions.specs.declared.Session.the-variants.{Closed, Flash}
+use Rattle.loader_history.proofs.Flash as history
+use Rattle.loader_history.proofs.Flash.{loadedUpTo, nothing-loaded, block-loaded, loaded}
+use Rattle.loader_effects.specs.Core.{Core}
+use Rattle.loader_effects.specs.Handle.{handle}
 use Rattle.sender.specs.Load.{announces, packetCount}
-use Rattle.requests.specs.Requests.{endPacket}
+use Rattle.esp_requests.specs.Requests.{endPacket}
 use Rattle.sender.specs.Packets.{blockData, blockPacket, packetOf}
 use Rattle.sender.specs.Line.{consecutive, packetsOf}
 use Rattle.sender_claims.specs.Stands.{Stands}

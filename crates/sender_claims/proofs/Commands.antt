@@ -10,23 +10,23 @@ use Rattle.lists.specs.Bytes.{sameBytes, allAre}
 use Rattle.fields.specs.Words.{word, half}
 use Rattle.fields.specs.Checksum.{checksum}
 use Rattle.fields.proofs.Theorems.{word-back}
-use Rattle.unframing.specs.Reasons.{whole}
-use Rattle.packets.specs.Packets.{header}
-use Rattle.commands.specs.Header.{command, sized, shaped, dataShaped}
-use Rattle.commands.specs.Block.{payload, zeroWords, sumGood, padding, paddingGood}
-use Rattle.parameters.specs.Parameters.{syncRule, flashEndRule}
-use Rattle.begins.specs.Begin.{beginOf, largestBlock, flashRule}
-use Rattle.begins.specs.declared.Begin.{Begin}
-use Rattle.sessions.specs.Session.{flashOpen, announced, accepted, advanced}
-use Rattle.sessions.specs.declared.Session.the-variants.{Closed, Flash}
-use Rattle.errors.specs.Errors.{kind, plainChecks, checks}
-use Rattle.errors.proofs.Checks.{DataPassed, data-passes, EndPassed, end-passes}
-use Rattle.blocks.specs.Flash.{flashBlock}
-use Rattle.effects.specs.Core.{Core, lengths, withSession}
-use Rattle.effects.specs.Effects.{effect}
-use Rattle.effects.specs.Handle.{carriedOut, handle}
-use Rattle.effects.proofs.Handled.{Passes, good-handled}
-use Rattle.requests.specs.Requests.{request, syncPacket, beginPacket, dataPacket, endPacket}
+use Rattle.slip_unframing.specs.Reasons.{whole}
+use Rattle.slip_packets.specs.Packets.{header}
+use Rattle.esp_commands.specs.Header.{command, sized, shaped, dataShaped}
+use Rattle.esp_commands.specs.Block.{payload, zeroWords, sumGood, padding, paddingGood}
+use Rattle.esp_parameters.specs.Parameters.{syncRule, flashEndRule}
+use Rattle.esp_begin.specs.Begin.{beginOf, largestBlock, flashRule}
+use Rattle.esp_begin.specs.declared.Begin.{Begin}
+use Rattle.loader_sessions.specs.Session.{flashOpen, announced, accepted, advanced}
+use Rattle.loader_sessions.specs.declared.Session.the-variants.{Closed, Flash}
+use Rattle.loader_errors.specs.Errors.{kind, plainChecks, checks}
+use Rattle.loader_errors.proofs.Checks.{DataPassed, data-passes, EndPassed, end-passes}
+use Rattle.loader_blocks.specs.Flash.{flashBlock}
+use Rattle.loader_effects.specs.Core.{Core, lengths, withSession}
+use Rattle.loader_effects.specs.Effects.{effect}
+use Rattle.loader_effects.specs.Handle.{carriedOut, handle}
+use Rattle.loader_effects.proofs.Handled.{Passes, good-handled}
+use Rattle.esp_requests.specs.Requests.{request, syncPacket, beginPacket, dataPacket, endPacket}
 use Rattle.sender.specs.Load.{InWords}
 use Rattle.sender_claims.proofs.Requests.{IsRead, sync-read, begin-read, block-read, end-read}
 use Rattle.sender_claims.proofs.Succeeding.{succeeded}

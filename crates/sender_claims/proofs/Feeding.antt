@@ -5,28 +5,28 @@ use mathlib.Core.Bool.{true}
 use mathlib.Core.Option.{none}
 use Prim.Native.Nat.{ℕ, _≤_}
 use lib.ListN.{length}
-use Rattle.framing.specs.Frame.{framedAll}
-use Rattle.packets.proofs.Unescape.{closedWhole}
-use Rattle.packets.proofs.Cut.{todo}
-use Rattle.answers.specs.Reply.{longestAnswer}
+use Rattle.slip_framing.specs.Frame.{framedAll}
+use Rattle.slip_packets.proofs.Unescape.{closedWhole}
+use Rattle.slip_packets.proofs.Cut.{todo}
+use Rattle.loader_answers.specs.Reply.{longestAnswer}
 use Rattle.loader_state.specs.Refusals.{flashLength}
-use Rattle.effects.specs.Core.{Core}
-use Rattle.effects.specs.Handle.{handle}
+use Rattle.loader_effects.specs.Core.{Core}
+use Rattle.loader_effects.specs.Handle.{handle}
 use Rattle.loader.specs.Step.{Step, Told, refused, taken, dropped, answered}
-use Rattle.claims.specs.Calls.{Machine, Call, start, stepped, next, lineBytes, closingCall, closingCalls, EachCall}
-use Rattle.claims.specs.CallHistory.{coreAt}
-use Rattle.claims.specs.RunCalls.{RunCall, lineTaken, closingRuns}
-use Rattle.claims.specs.Feeding.{State, ifClosing, byteCall, oneByte, byBytes}
-use Rattle.claims.specs.RunsAreBytes.{runCalls}
-use Rattle.claims.specs.HoweverCut.{joined, byRuns}
-use Rattle.claims.specs.Arrives.{bytes, after}
-use Rattle.claims.specs.WorkedLoad.{LongAnswers}
-use Rattle.claims.proofs.Passing.{packetOf, closings, coreLeft}
-use Rattle.claims.proofs.Line.{single, single-closings, single-left, single-line}
-use Rattle.claims.proofs.CallHistory.{from-start}
-use Rattle.claims.proofs.HoweverCut.{runs-as-bytes}
-use Rattle.claims.proofs.Demand3.{demand3}
-use Rattle.claims.proofs.WorkedLoad.{all-line, long-pass}
+use Rattle.loader_claims.specs.Calls.{Machine, Call, start, stepped, next, lineBytes, closingCall, closingCalls, EachCall}
+use Rattle.loader_claims.specs.CallHistory.{coreAt}
+use Rattle.loader_claims.specs.RunCalls.{RunCall, lineTaken, closingRuns}
+use Rattle.loader_claims.specs.Feeding.{State, ifClosing, byteCall, oneByte, byBytes}
+use Rattle.loader_claims.specs.RunsAreBytes.{runCalls}
+use Rattle.loader_claims.specs.HoweverCut.{joined, byRuns}
+use Rattle.loader_claims.specs.Arrives.{bytes, after}
+use Rattle.loader_claims.specs.WorkedLoad.{LongAnswers}
+use Rattle.loader_claims.proofs.Passing.{packetOf, closings, coreLeft}
+use Rattle.loader_claims.proofs.Line.{single, single-closings, single-left, single-line}
+use Rattle.loader_claims.proofs.CallHistory.{from-start}
+use Rattle.loader_claims.proofs.HoweverCut.{runs-as-bytes}
+use Rattle.loader_claims.proofs.Demand3.{demand3}
+use Rattle.loader_claims.proofs.WorkedLoad.{all-line, long-pass}
 use Rattle.sender_claims.specs.Fed.{Accepted, LineFed, by-bytes, by-runs, cut-anywhere, fresh}
 use Rattle.sender_claims.proofs.Over.{tellsOver, coreOver, AllFrameable}
 use Rattle.sender_claims.proofs.Frames.{todo-frames}

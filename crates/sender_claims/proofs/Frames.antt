@@ -3,14 +3,14 @@ use mathlib.Core.Path.{_≡_, sym, ap, _∙_}
 use mathlib.Core.List.{List, [], _∷_, _++_, map, append-assoc, map-map}
 use mathlib.Core.Option.{none, some}
 use Prim.Native.Nat.{ℕ}
-use Rattle.framing.specs.Frame.{END, escaped, framed, framedAll}
-use Rattle.unframing.specs.Reasons.{whole}
-use Rattle.packets.specs.Packets.{header, packets, stretches, ended, nonempty}
-use Rattle.packets.proofs.Unescape.{closedWhole}
-use Rattle.packets.proofs.Cut.{clean-nil, todo, todo-none, todo-first, todo-again, todo-open}
-use Rattle.claims.proofs.Passing.{packetOf}
-use Rattle.claims.proofs.RunLine.{law-first}
-use Rattle.claims.proofs.Arrives.{todo-framed}
+use Rattle.slip_framing.specs.Frame.{END, escaped, framed, framedAll}
+use Rattle.slip_unframing.specs.Reasons.{whole}
+use Rattle.slip_packets.specs.Packets.{header, packets, stretches, ended, nonempty}
+use Rattle.slip_packets.proofs.Unescape.{closedWhole}
+use Rattle.slip_packets.proofs.Cut.{clean-nil, todo, todo-none, todo-first, todo-again, todo-open}
+use Rattle.loader_claims.proofs.Passing.{packetOf}
+use Rattle.loader_claims.proofs.RunLine.{law-first}
+use Rattle.loader_claims.proofs.Arrives.{todo-framed}
 use Rattle.sender_claims.proofs.Over.{AllFrameable}
 
 -- a framed packet ends with a C0, so that the frames behind it begin after an empty open stretch

@@ -4,15 +4,15 @@ use mathlib.Core.Bool.{Bool, true, false, cond}
 use Prim.Native.Nat.{ℕ}
 use lib.Dec.{eqb}
 use Rattle.lists.specs.Checks.{first}
-use Rattle.begins.specs.Begin.{flashRule}
-use Rattle.begins.specs.declared.Begin.{Begin}
-use Rattle.begins.specs.declared.Lengths.{Lengths}
-use Rattle.commands.specs.Header.{command, shaped, sized}
+use Rattle.esp_begin.specs.Begin.{flashRule}
+use Rattle.esp_begin.specs.declared.Begin.{Begin}
+use Rattle.esp_begin.specs.declared.Lengths.{Lengths}
+use Rattle.esp_commands.specs.Header.{command, shaped, sized}
 use Rattle.fields.specs.Words.{half}
-use Rattle.sessions.specs.declared.Session.{Session}
-use Rattle.errors.specs.Errors.{kind, plainChecks, checks, errorOf}
+use Rattle.loader_sessions.specs.declared.Session.{Session}
+use Rattle.loader_errors.specs.Errors.{kind, plainChecks, checks, errorOf}
 use Rattle.loader_state.specs.Refusals.{flashLength}
-use Rattle.requests.specs.Requests.{request, beginPacket}
+use Rattle.esp_requests.specs.Requests.{request, beginPacket}
 use Rattle.sender.specs.Load.{announces, InWords}
 use Rattle.sender.specs.Sending.{loadChecks, loadRefusal}
 use Rattle.sender_claims.specs.Judged.{JudgedAsLoader}

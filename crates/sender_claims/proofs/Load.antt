@@ -4,10 +4,10 @@ use mathlib.Core.List.{List, [], _∷_, map}
 use Prim.Native.Nat.{ℕ}
 use lib.ListN.{length, take}
 use Rattle.lists.specs.Bytes.{IsBytes}
-use Rattle.unframing.specs.Reasons.{whole}
-use Rattle.packets.specs.Packets.{read, header}
-use Rattle.sessions.specs.declared.Session.the-variants.{Closed}
-use Rattle.effects.specs.Core.{Core}
+use Rattle.slip_unframing.specs.Reasons.{whole}
+use Rattle.slip_packets.specs.Packets.{read, header}
+use Rattle.loader_sessions.specs.declared.Session.the-variants.{Closed}
+use Rattle.loader_effects.specs.Core.{Core}
 use Rattle.sender.specs.Load.{packetCount}
 use Rattle.sender.specs.Packets.{packetOf}
 use Rattle.sender.specs.Line.{consecutive, packetsOf}
@@ -16,7 +16,7 @@ use Rattle.sender_claims.specs.Succeeds.{success}
 use Rattle.sender_claims.specs.Stands.{Stands}
 use Rattle.sender_claims.proofs.Over.{tellsOver, coreOver, AllFrameable}
 use Rattle.sender.proofs.Sizes.{sized}
-use Rattle.requests.proofs.Lengths.{Frameable}
+use Rattle.esp_requests.proofs.Lengths.{Frameable}
 use Rattle.sender.proofs.Packets.{packet-frameable}
 use Rattle.sender_claims.proofs.Requests.{IsRead, packet-read}
 use Rattle.sender_claims.proofs.Succeeding.{succeeding-tells, succeeding-so-far, succeeding-leaves}

@@ -2,12 +2,12 @@
 use mathlib.Core.List.{List, [], _∷_}
 use Prim.Native.Nat.{ℕ, zero, suc}
 use lib.ListN.{length, take}
-use Rattle.unframing.specs.Reasons.{whole}
-use Rattle.packets.specs.Packets.{header}
-use Rattle.effects.specs.Core.{Core}
-use Rattle.effects.specs.Handle.{handle}
+use Rattle.slip_unframing.specs.Reasons.{whole}
+use Rattle.slip_packets.specs.Packets.{header}
+use Rattle.loader_effects.specs.Core.{Core}
+use Rattle.loader_effects.specs.Handle.{handle}
 use Rattle.loader.specs.Step.{Told, toldOf}
-use Rattle.requests.proofs.Lengths.{Frameable}
+use Rattle.esp_requests.proofs.Lengths.{Frameable}
 
 unfoldable pub tellsOver : Core → List (List ℕ) → List Told
 tellsOver c [] = []

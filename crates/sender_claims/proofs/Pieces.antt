@@ -13,8 +13,8 @@ use lib.ListN.{length, take, drop, replicate, length-append, length-take, length
 use lib.Seq.{take-at, drop-at, take-all, take-add, take-append-add, getD-drop}
 use Rattle.lists.specs.Bytes.{IsBytes, allAre}
 use Rattle.fields.specs.Checksum.{xored, checksum}
-use Rattle.begins.proofs.Sectors.{next-block}
-use Rattle.requests.specs.Requests.{padded}
+use Rattle.esp_begin.proofs.Sectors.{next-block}
+use Rattle.esp_requests.specs.Requests.{padded}
 use Rattle.sender.specs.Packets.{piece, blockData}
 use Rattle.sender.proofs.Packets.{piece-length, data-length}
 

@@ -7,12 +7,12 @@ use native.Mathlib.Omega.{arith}
 use borrow.Author.Tests.{le-leb}
 use lib.Dec.{ltb}
 use lib.ListN.{length}
-use Rattle.unframing.specs.Reasons.{whole}
-use Rattle.packets.specs.Packets.{read, header}
-use Rattle.begins.specs.Count.{countOf}
-use Rattle.begins.specs.declared.Begin.{Begin}
+use Rattle.slip_unframing.specs.Reasons.{whole}
+use Rattle.slip_packets.specs.Packets.{read, header}
+use Rattle.esp_begin.specs.Count.{countOf}
+use Rattle.esp_begin.specs.declared.Begin.{Begin}
 use Rattle.sender.specs.Load.{announces}
-use Rattle.requests.specs.Requests.{request, syncPacket, beginPacket, dataPacket, endPacket}
+use Rattle.esp_requests.specs.Requests.{request, syncPacket, beginPacket, dataPacket, endPacket}
 use Rattle.sender.specs.Packets.{blockPacket, packetOf}
 
 -- it has its header, and direction 0

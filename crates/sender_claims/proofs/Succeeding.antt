@@ -3,12 +3,12 @@ use mathlib.Core.Path.{_≡_, refl}
 use mathlib.Core.List.{List, [], _∷_, map}
 use Prim.Native.Nat.{ℕ, zero, suc}
 use lib.ListN.{take}
-use Rattle.unframing.specs.Reasons.{whole}
-use Rattle.packets.specs.Packets.{header}
-use Rattle.answers.specs.Answer.{plain}
-use Rattle.commands.specs.Header.{command}
-use Rattle.effects.specs.Core.{Core}
-use Rattle.effects.specs.Handle.{Handled, replied, handle}
+use Rattle.slip_unframing.specs.Reasons.{whole}
+use Rattle.slip_packets.specs.Packets.{header}
+use Rattle.loader_answers.specs.Answer.{plain}
+use Rattle.esp_commands.specs.Header.{command}
+use Rattle.loader_effects.specs.Core.{Core}
+use Rattle.loader_effects.specs.Handle.{Handled, replied, handle}
 use Rattle.loader.specs.Step.{toldOf}
 use Rattle.sender_claims.specs.Succeeds.{asks, success}
 use Rattle.sender_claims.proofs.Over.{tellsOver, coreOver}

@@ -6,14 +6,14 @@ use Prim.Native.Nat.{ℕ, _≤_, _<_}
 use native.Mathlib.Omega.{arith}
 use lib.ListN.{length, take}
 use Rattle.lists.proofs.Tests.{first-passed}
-use Rattle.framing.specs.Frame.{longestFrame, framed, wrote, framing, framedAll}
-use Rattle.framing.proofs.Refusals.{framing-written}
-use Rattle.framing.proofs.Escapes.{length-framed, escaped-most}
-use Rattle.packets.specs.Packets.{read, packets}
-use Rattle.packets.proofs.Theorems.{Leaves, leaves}
+use Rattle.slip_framing.specs.Frame.{longestFrame, framed, wrote, framing, framedAll}
+use Rattle.slip_framing.proofs.Refusals.{framing-written}
+use Rattle.slip_framing.proofs.Escapes.{length-framed, escaped-most}
+use Rattle.slip_packets.specs.Packets.{read, packets}
+use Rattle.slip_packets.proofs.Theorems.{Leaves, leaves}
 use Rattle.loader_state.specs.Refusals.{flashLength}
-use Rattle.claims.specs.Calls.{start}
-use Rattle.claims.specs.CallHistory.{coreAt}
+use Rattle.loader_claims.specs.Calls.{start}
+use Rattle.loader_claims.specs.CallHistory.{coreAt}
 use Rattle.sender.specs.Load.{packetCount}
 use Rattle.sender.specs.Packets.{packetOf}
 use Rattle.sender.specs.Line.{packetsOf, loadLine}

@@ -2,12 +2,12 @@
 use mathlib.Core.Path.{refl}
 use Rattle.lists.specs.Checks.{first}
 use Rattle.fields.specs.Checksum.{xored, checksum}
-use Rattle.framing.specs.Frame.{escaped, framed}
-use Rattle.begins.specs.Begin.{roundUp, counted, flashRule}
-use Rattle.begins.specs.Count.{dividedUp, countOf}
+use Rattle.slip_framing.specs.Frame.{escaped, framed}
+use Rattle.esp_begin.specs.Begin.{roundUp, counted, flashRule}
+use Rattle.esp_begin.specs.Count.{dividedUp, countOf}
 use Rattle.loader_state.specs.Refusals.{flashLength}
-use Rattle.requests.specs.Requests.{request, syncPacket, beginPacket, padded, dataPacket, endPacket}
-use Rattle.history.specs.Witness.{workedBegin, workedBlock, workedEnd}
+use Rattle.esp_requests.specs.Requests.{request, syncPacket, beginPacket, padded, dataPacket, endPacket}
+use Rattle.loader_history.specs.Witness.{workedBegin, workedBlock, workedEnd}
 use Rattle.sender.specs.Load.{announces, packetCount}
 use Rattle.sender.specs.Packets.{piece, blockData, blockPacket, packetOf}
 use Rattle.sender.specs.Line.{consecutive, packetsOf}

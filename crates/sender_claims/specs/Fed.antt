@@ -4,16 +4,16 @@ use mathlib.Core.List.{List, map}
 use mathlib.Core.Bool.{true}
 use Prim.Native.Nat.{ℕ, _≤_}
 use lib.ListN.{length}
-use Rattle.framing.specs.Frame.{longest}
-use Rattle.answers.specs.Reply.{longestAnswer}
+use Rattle.slip_framing.specs.Frame.{longest}
+use Rattle.loader_answers.specs.Reply.{longestAnswer}
 use Rattle.loader_state.specs.Refusals.{wordCount}
 use Rattle.loader.specs.Step.{Told}
-use Rattle.claims.specs.Calls.{Machine, Call, start, lineBytes, closingCalls}
-use Rattle.claims.specs.RunCalls.{RunCall, lineTaken, closingRuns}
-use Rattle.claims.specs.Feeding.{State}
-use Rattle.claims.specs.RunsAreBytes.{runCalls}
-use Rattle.claims.specs.HoweverCut.{joined, byRuns}
-use Rattle.claims.specs.Arrives.{after}
+use Rattle.loader_claims.specs.Calls.{Machine, Call, start, lineBytes, closingCalls}
+use Rattle.loader_claims.specs.RunCalls.{RunCall, lineTaken, closingRuns}
+use Rattle.loader_claims.specs.Feeding.{State}
+use Rattle.loader_claims.specs.RunsAreBytes.{runCalls}
+use Rattle.loader_claims.specs.HoweverCut.{joined, byRuns}
+use Rattle.loader_claims.specs.Arrives.{after}
 
 -- the buffers but flash, as a fresh loader accepts them: refusals 1 and 4 let them pass
 pub record Accepted (buffer words : List ℕ) : Type 0 where

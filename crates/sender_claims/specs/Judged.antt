@@ -3,12 +3,12 @@ use mathlib.Core.Path.{_≡_}
 use mathlib.Core.Bool.{true, cond}
 use Prim.Native.Nat.{ℕ}
 use lib.Dec.{eqb}
-use Rattle.begins.specs.declared.Lengths.{Lengths}
-use Rattle.sessions.specs.declared.Session.{Session}
-use Rattle.errors.specs.Numbers.{badParameter}
-use Rattle.errors.specs.Errors.{errorOf}
+use Rattle.esp_begin.specs.declared.Lengths.{Lengths}
+use Rattle.loader_sessions.specs.declared.Session.{Session}
+use Rattle.loader_errors.specs.Numbers.{badParameter}
+use Rattle.loader_errors.specs.Errors.{errorOf}
 use Rattle.loader_state.specs.Refusals.{flashLength}
-use Rattle.requests.specs.Requests.{beginPacket}
+use Rattle.esp_requests.specs.Requests.{beginPacket}
 use Rattle.sender.specs.Load.{announces, InWords}
 use Rattle.sender.specs.Sending.{loadRefusal}
 

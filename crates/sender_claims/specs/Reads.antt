@@ -3,8 +3,8 @@ use mathlib.Core.Path.{_≡_}
 use mathlib.Core.List.{List, [], _∷_, map}
 use Prim.Native.Nat.{ℕ, _≤_, _<_}
 use lib.ListN.{length, take}
-use Rattle.framing.specs.Frame.{longestFrame, framed, wrote}
-use Rattle.packets.specs.Packets.{read, packets}
+use Rattle.slip_framing.specs.Frame.{longestFrame, framed, wrote}
+use Rattle.slip_packets.specs.Packets.{read, packets}
 use Rattle.sender.specs.Load.{packetCount}
 use Rattle.sender.specs.Packets.{packetOf}
 use Rattle.sender.specs.Line.{packetsOf, loadLine}

@@ -1,13 +1,13 @@
--- "after the END the image stands at its offset as demand 3 says": the four parts of flash that demand 3 names (history::Loaded), with the image itself where that has the blocks' data. Of the sender it takes which loads are refused and the line of a load: definitions, and no code.
+-- "after the END the image stands at its offset as demand 3 says": the four parts of flash that demand 3 names (loader_history::Loaded), with the image itself where that has the blocks' data. Of the sender it takes which loads are refused and the line of a load: definitions, and no code.
 use mathlib.Core.Path.{_≡_}
 use mathlib.Core.List.{List}
 use Prim.Native.Nat.{ℕ, _+_, _-_}
 use lib.ListN.{length, take, drop, replicate}
 use Rattle.lists.specs.Bytes.{IsBytes}
-use Rattle.begins.specs.Begin.{roundUp}
-use Rattle.sessions.specs.declared.Session.the-variants.{Closed}
+use Rattle.esp_begin.specs.Begin.{roundUp}
+use Rattle.loader_sessions.specs.declared.Session.the-variants.{Closed}
 use Rattle.loader.specs.Step.{Told}
-use Rattle.claims.specs.Calls.{Machine}
+use Rattle.loader_claims.specs.Calls.{Machine}
 use Rattle.sender.specs.Sending.{loadRefusal}
 use Rattle.sender.specs.Line.{loadLine}
 use Rattle.sender_claims.specs.Fed.{Accepted, LineFed}

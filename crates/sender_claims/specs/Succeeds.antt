@@ -6,13 +6,13 @@ use Prim.Native.Nat.{ℕ}
 use lib.Dec.{eqb}
 use lib.ListN.{length, take}
 use Rattle.lists.specs.Bytes.{IsBytes}
-use Rattle.framing.specs.Frame.{framed, framedAll}
-use Rattle.commands.specs.Numbers.{FLASH-END}
-use Rattle.commands.specs.Header.{command}
-use Rattle.answers.specs.Answer.{answerWith}
-use Rattle.notes.specs.Notes.{Order, no-order, end-word}
+use Rattle.slip_framing.specs.Frame.{framed, framedAll}
+use Rattle.esp_commands.specs.Numbers.{FLASH-END}
+use Rattle.esp_commands.specs.Header.{command}
+use Rattle.loader_answers.specs.Answer.{answerWith}
+use Rattle.loader_notes.specs.Notes.{Order, no-order, end-word}
 use Rattle.loader.specs.Step.{Told, answered}
-use Rattle.claims.specs.Calls.{Machine}
+use Rattle.loader_claims.specs.Calls.{Machine}
 use Rattle.sender.specs.Sending.{loadRefusal}
 use Rattle.sender.specs.Line.{packetsOf, loadLine}
 use Rattle.sender_claims.specs.Fed.{Accepted, LineFed}

@@ -2,7 +2,7 @@
 use mathlib.Core.Path.{_≡_}
 use mathlib.Core.List.{List, [], _∷_}
 use Prim.Native.Nat.{ℕ}
-use Rattle.history.specs.Witness.{workedBegin, workedBlock, workedEnd}
+use Rattle.loader_history.specs.Witness.{workedBegin, workedBlock, workedEnd}
 use Rattle.sender.specs.Line.{packetsOf}
 use Rattle.sender.specs.Sending.{loadRefusal, refusal}
 

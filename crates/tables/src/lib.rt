@@ -149,7 +149,7 @@ fn encode_fitting(bytes: &[u8], dst: &mut [u8])
 {
     let mut i: usize = 0;
     while i < bytes.len() {
-        let digits = columns::hex(bytes[i]);
+        let digits = listing_columns::hex(bytes[i]);
         dst[2 * i] = digits[0];
         dst[2 * i + 1] = digits[1];
         i += 1;

@@ -1,6 +1,6 @@
 use borrow.Author.Needs.{needs}
 use Rattle.link_frames.specs.Writing.{Writes}
-use Rattle.link_turns.specs.Moves.{sent}
+use Rattle.link_events.specs.Moves.{sent}
 use Rattle.link.specs.Answers.{done}
 use Rattle.link.proofs.Calls.{reply-fits}
 use Rattle.link.proofs.answer.Statement.{statement}

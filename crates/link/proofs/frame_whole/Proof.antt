@@ -5,8 +5,8 @@ use lib.ListN.{length, getD, drop}
 use borrow.Author.Needs.{needs}
 use Rattle.link_state.specs.Link.{renewed}
 use Rattle.link_state.specs.declared.Link.{Link}
-use Rattle.link_turns.specs.Turns.{quiet}
-use Rattle.link_whole.specs.Whole.{baudFrame, openFrame}
+use Rattle.link_events.specs.Turns.{quiet}
+use Rattle.link_effects.specs.Whole.{baudFrame, openFrame}
 use Rattle.link.proofs.Hearing.{whole-start, whole-baud, whole-open}
 use Rattle.link.proofs.frame_whole.Statement.{statement}
 use Rattle.link.proofs.frame_whole.Tie as tie

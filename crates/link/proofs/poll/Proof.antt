@@ -2,7 +2,7 @@
 use mathlib.Core.Path.{sym, ap, _∙_}
 use borrow.Author.Needs.{needs}
 use Rattle.link_refusals.proofs.Sound.{checks-passed}
-use Rattle.link_turns.specs.Turns.{quiet}
+use Rattle.link_events.specs.Turns.{quiet}
 use Rattle.link.specs.Step.{pollStep}
 use Rattle.link.proofs.Calls.{call-taken, call-refused}
 use Rattle.link.proofs.poll.Statement.{statement}

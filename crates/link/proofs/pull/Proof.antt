@@ -3,7 +3,7 @@ use mathlib.Core.Path.{sym, ap, _∙_}
 use borrow.Author.Needs.{needs}
 use Rattle.link_state.specs.declared.Link.{Link}
 use Rattle.link_refusals.proofs.Sound.{checks-passed}
-use Rattle.link_turns.specs.Turns.{pulled}
+use Rattle.link_events.specs.Turns.{pulled}
 use Rattle.link.specs.Step.{pullStep}
 use Rattle.link.proofs.Calls.{call-taken, call-refused}
 use Rattle.link.proofs.pull.Statement.{statement}

@@ -1,5 +1,5 @@
 use mathlib.Core.Path.{refl}
-use Rattle.link_turns.specs.Moves.{padded}
+use Rattle.link_events.specs.Moves.{padded}
 use Rattle.link.specs.Answers.{refusing}
 use Rattle.link.proofs.refuse.Statement.{statement}
 use Rattle.link.proofs.refuse.Tie as tie

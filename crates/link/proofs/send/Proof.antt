@@ -9,8 +9,8 @@ use Rattle.link_frames.proofs.Writing.{data-fits}
 use Rattle.link_state.specs.declared.Link.{Link}
 use Rattle.link_state.specs.Link.{withOutstanding}
 use Rattle.link_refusals.proofs.Sound.{send-passed}
-use Rattle.link_turns.specs.Moves.{padded}
-use Rattle.link_turns.specs.Turns.{answers}
+use Rattle.link_events.specs.Moves.{padded}
+use Rattle.link_events.specs.Turns.{answers}
 use Rattle.link.specs.Answers.{done}
 use Rattle.link.specs.Step.{sendStep}
 use Rattle.link.proofs.Calls.{call-taken, call-refused}

@@ -4,7 +4,7 @@ use native.Mathlib.Omega.{arith}
 use borrow.Author.Tests.{ltb-true}
 use borrow.Author.Needs.{needs}
 use lib.ListN.{length}
-use Rattle.answers.specs.Reply.{longestAnswer}
+use Rattle.loader_answers.specs.Reply.{longestAnswer}
 use Rattle.listing.proofs.list_all.Statement.{statement}
 use Rattle.listing.proofs.list_all.Tie as tie
 

@@ -2,8 +2,8 @@ use mathlib.Core.Path.{_≡_, refl, sym, ap, _∙_}
 use Prim.Native.Nat.{_-_, _<_}
 use native.Mathlib.Omega.{arith}
 use lib.ListN.{length}
-use Rattle.begins.specs.Count.{countOf}
-use Rattle.requests.specs.Requests.{beginPacket}
+use Rattle.esp_begin.specs.Count.{countOf}
+use Rattle.esp_requests.specs.Requests.{beginPacket}
 use Rattle.sender.specs.Load.{announces}
 use Rattle.sender.specs.Packets.{blockPacket}
 use Rattle.sender.proofs.Sizes.{accepted, sized, size-word, offset-word, block-word}

@@ -1,7 +1,7 @@
 use mathlib.Core.Path.{refl}
-use Rattle.framing.proofs.Refusals.{framed-as}
+use Rattle.slip_framing.proofs.Refusals.{framed-as}
 use native.Mathlib.Omega.{arith}
-use Rattle.begins.proofs.Sectors.{reaches}
+use Rattle.esp_begin.proofs.Sectors.{reaches}
 use Rattle.sender.proofs.Parts.{block-is}
 use borrow.Author.Needs.{needs}
 use Rattle.sender.proofs.send_block.Statement.{statement}

@@ -1,0 +1,18 @@
+use mathlib.Core.Path.{refl}
+use Rattle.esp_commands.specs.Header.{shaped}
+use borrow.Author.Needs.{needs}
+use Rattle.esp_commands.proofs.shape_good.Statement.{statement}
+use Rattle.esp_commands.proofs.shape_good.Tie as tie
+
+size-told-requires : tie.Need-size-told-requires
+size-told-requires c κs = search needs
+
+past-requires : tie.Need-past-requires
+past-requires c κs = search needs
+
+returns : tie.Need-returns
+unfolding shaped
+returns c = rw (c .past .ensures, c .before .size-told .ensures) refl
+
+pub shape-good-spec : {M : Type 1} → statement M
+shape-good-spec = tie.close (tie.spec size-told-requires past-requires returns)

@@ -1,0 +1,14 @@
+use borrow.Author.Needs.{needs}
+use Rattle.link_events.specs.Moves.{padded}
+use Rattle.link_events.proofs.break_off.Statement.{statement}
+use Rattle.link_events.proofs.break_off.Tie as tie
+
+new-requires : tie.Need-new-requires
+new-requires c κs = search needs
+
+returns : tie.Need-returns
+unfolding padded
+returns c = rw (c .new .ensures)
+
+pub break-off-spec : {M : Type 1} → statement M
+break-off-spec = tie.close (tie.spec new-requires returns)

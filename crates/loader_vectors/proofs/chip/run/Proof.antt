@@ -1,0 +1,58 @@
+-- Loop: the place is inside, and grows; the lent buffer keeps its length.
+use Prim.Native.Nat.{_-_, _≤_}
+use mathlib.Core.Logic.{⊎-elim}
+use mathlib.Core.Path.{_≡_, _∙_, refl}
+use native.Mathlib.Omega.{arith}
+use lib.ListN.{length}
+use borrow.Author.Needs.{needs}
+use Rattle.loader_vectors.proofs.chip.run.Statement.{statement}
+use Rattle.loader_vectors.proofs.chip.run.Tie as tie
+
+abbrev Inv-loop : tie.InvT-loop
+Inv-loop bytes got₀ packet₀ flash₀ words₀ state₀ said₀ at₀ got packet flash words state said at = (at ≤ length bytes) × (length got ≡ length got₀)
+
+abbrev μ-loop : tie.MeasureT-loop
+μ-loop bytes got₀ packet₀ flash₀ words₀ state₀ said₀ at₀ got packet flash words state said at = length bytes - at
+
+new-requires : tie.Need-new-requires Inv-loop μ-loop
+new-requires c κs = tt
+
+loop-holds : tie.Need-loop-holds Inv-loop μ-loop
+loop-holds c = (omega arith, refl)
+
+feed-from-requires : tie.Need-feed-from-requires Inv-loop μ-loop
+feed-from-requires c κs = c .before .before .before .before .before .loop .inv .0
+
+joined-requires : tie.Need-joined-requires Inv-loop μ-loop
+joined-requires c κs = tt
+
+loop-less : tie.Need-loop-less Inv-loop μ-loop
+loop-less c = ⊎-elim (λ h. omega arith) (λ e. omega arith) (c .before .before .before .before .feed-from .ensures .1)
+
+loop-again : tie.Need-loop-again Inv-loop μ-loop
+loop-again c = (c .before .before .before .before .feed-from .ensures .0, c .before .before .before .before .feed-from .kept .1 .1 .1 .1 .0 ∙ c .before .before .before .before .before .before .before .before .before .before .loop .inv .1)
+
+keep-requires : tie.Need-keep-requires Inv-loop μ-loop
+keep-requires c κs = tt
+
+same-length : tie.Need-same-length Inv-loop μ-loop
+same-length c = search needs
+
+returns : tie.Need-returns Inv-loop μ-loop
+returns c = tt
+
+pub run-spec : {M : Type 1} → statement M
+run-spec =
+    tie.close
+    (tie.spec
+    Inv-loop
+    μ-loop
+    new-requires
+    loop-holds
+    feed-from-requires
+    joined-requires
+    loop-less
+    loop-again
+    keep-requires
+    same-length
+    returns)

@@ -1,9 +1,0 @@
-use Rattle.begins.proofs.Count.{count-is-divided-up}
-use Rattle.promises.proofs.count_is_divided_up.Statement.{statement}
-use Rattle.promises.proofs.count_is_divided_up.Tie as tie
-
-returns : tie.Need-returns
-returns c = count-is-divided-up
-
-pub count-is-divided-up-spec : {M : Type 1} → statement M
-count-is-divided-up-spec = tie.close (tie.spec returns)

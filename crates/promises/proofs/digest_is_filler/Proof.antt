@@ -1,9 +1,0 @@
-use Rattle.history.proofs.Theorems.{digest-is-filler}
-use Rattle.promises.proofs.digest_is_filler.Statement.{statement}
-use Rattle.promises.proofs.digest_is_filler.Tie as tie
-
-returns : tie.Need-returns
-returns c = digest-is-filler
-
-pub digest-is-filler-spec : {M : Type 1} → statement M
-digest-is-filler-spec = tie.close (tie.spec returns)

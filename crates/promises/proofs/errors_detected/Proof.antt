@@ -1,9 +1,0 @@
-use Rattle.link_claims.proofs.Errors.{errors-detected}
-use Rattle.promises.proofs.errors_detected.Statement.{statement}
-use Rattle.promises.proofs.errors_detected.Tie as tie
-
-returns : tie.Need-returns
-returns c = errors-detected
-
-pub errors-detected-spec : {M : Type 1} → statement M
-errors-detected-spec = tie.close (tie.spec returns)

@@ -1,9 +1,0 @@
-use Rattle.link_claims.proofs.Refusals.{never-refused}
-use Rattle.promises.proofs.never_refused.Statement.{statement}
-use Rattle.promises.proofs.never_refused.Tie as tie
-
-returns : tie.Need-returns
-returns c = never-refused
-
-pub never-refused-spec : {M : Type 1} → statement M
-never-refused-spec = tie.close (tie.spec returns)

@@ -1,9 +1,0 @@
-use Rattle.history.proofs.Theorems.{packets-keep}
-use Rattle.promises.proofs.packets_keep.Statement.{statement}
-use Rattle.promises.proofs.packets_keep.Tie as tie
-
-returns : tie.Need-returns
-returns c = packets-keep
-
-pub packets-keep-spec : {M : Type 1} → statement M
-packets-keep-spec = tie.close (tie.spec returns)

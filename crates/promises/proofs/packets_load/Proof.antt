@@ -1,9 +1,0 @@
-use Rattle.history.proofs.Theorems.{packets-load}
-use Rattle.promises.proofs.packets_load.Statement.{statement}
-use Rattle.promises.proofs.packets_load.Tie as tie
-
-returns : tie.Need-returns
-returns c = packets-load
-
-pub packets-load-spec : {M : Type 1} → statement M
-packets-load-spec = tie.close (tie.spec returns)

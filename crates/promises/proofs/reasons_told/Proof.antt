@@ -1,9 +1,0 @@
-use Rattle.claims.proofs.Reasons.{reasons-told}
-use Rattle.promises.proofs.reasons_told.Statement.{statement}
-use Rattle.promises.proofs.reasons_told.Tie as tie
-
-returns : tie.Need-returns
-returns c = reasons-told
-
-pub reasons-told-spec : {M : Type 1} → statement M
-reasons-told-spec = tie.close (tie.spec returns)

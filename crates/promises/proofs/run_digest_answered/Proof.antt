@@ -1,9 +1,0 @@
-use Rattle.claims.proofs.Digest.{run-digest-answered}
-use Rattle.promises.proofs.run_digest_answered.Statement.{statement}
-use Rattle.promises.proofs.run_digest_answered.Tie as tie
-
-returns : tie.Need-returns
-returns c = run-digest-answered
-
-pub run-digest-answered-spec : {M : Type 1} → statement M
-run-digest-answered-spec = tie.close (tie.spec returns)

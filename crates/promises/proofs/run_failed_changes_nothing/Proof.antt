@@ -1,9 +1,0 @@
-use Rattle.claims.proofs.ChangesNothing.{run-failed-changes-nothing}
-use Rattle.promises.proofs.run_failed_changes_nothing.Statement.{statement}
-use Rattle.promises.proofs.run_failed_changes_nothing.Tie as tie
-
-returns : tie.Need-returns
-returns c = run-failed-changes-nothing
-
-pub run-failed-changes-nothing-spec : {M : Type 1} → statement M
-run-failed-changes-nothing-spec = tie.close (tie.spec returns)

@@ -1,9 +1,0 @@
-use Rattle.claims.proofs.ChangesNothing.{run-refused-changes-nothing}
-use Rattle.promises.proofs.run_refused_changes_nothing.Statement.{statement}
-use Rattle.promises.proofs.run_refused_changes_nothing.Tie as tie
-
-returns : tie.Need-returns
-returns c = run-refused-changes-nothing
-
-pub run-refused-changes-nothing-spec : {M : Type 1} → statement M
-run-refused-changes-nothing-spec = tie.close (tie.spec returns)

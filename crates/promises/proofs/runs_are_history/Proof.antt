@@ -1,9 +1,0 @@
-use Rattle.claims.proofs.CallHistory.{runs-are-history}
-use Rattle.promises.proofs.runs_are_history.Statement.{statement}
-use Rattle.promises.proofs.runs_are_history.Tie as tie
-
-returns : tie.Need-returns
-returns c = runs-are-history
-
-pub runs-are-history-spec : {M : Type 1} → statement M
-runs-are-history-spec = tie.close (tie.spec returns)

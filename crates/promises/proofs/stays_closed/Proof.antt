@@ -1,9 +1,0 @@
-use Rattle.runs.proofs.Theorems.{stays-closed}
-use Rattle.promises.proofs.stays_closed.Statement.{statement}
-use Rattle.promises.proofs.stays_closed.Tie as tie
-
-returns : tie.Need-returns
-returns c = stays-closed
-
-pub stays-closed-spec : {M : Type 1} → statement M
-stays-closed-spec = tie.close (tie.spec returns)

@@ -1,9 +1,0 @@
-use Rattle.packets.proofs.Theorems.{steps-are-cut}
-use Rattle.promises.proofs.steps_are_cut.Statement.{statement}
-use Rattle.promises.proofs.steps_are_cut.Tie as tie
-
-returns : tie.Need-returns
-returns c = steps-are-cut
-
-pub steps-are-cut-spec : {M : Type 1} → statement M
-steps-are-cut-spec = tie.close (tie.spec returns)

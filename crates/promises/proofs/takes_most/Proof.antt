@@ -1,9 +1,0 @@
-use Rattle.runs.proofs.Theorems.{takes-most}
-use Rattle.promises.proofs.takes_most.Statement.{statement}
-use Rattle.promises.proofs.takes_most.Tie as tie
-
-returns : tie.Need-returns
-returns c = takes-most
-
-pub takes-most-spec : {M : Type 1} → statement M
-takes-most-spec = tie.close (tie.spec returns)

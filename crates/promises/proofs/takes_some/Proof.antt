@@ -1,9 +1,0 @@
-use Rattle.runs.proofs.Theorems.{takes-some}
-use Rattle.promises.proofs.takes_some.Statement.{statement}
-use Rattle.promises.proofs.takes_some.Tie as tie
-
-returns : tie.Need-returns
-returns c = takes-some
-
-pub takes-some-spec : {M : Type 1} → statement M
-takes-some-spec = tie.close (tie.spec returns)

@@ -1,9 +1,0 @@
-use Rattle.fields.proofs.Theorems.{word-back}
-use Rattle.promises.proofs.word_back.Statement.{statement}
-use Rattle.promises.proofs.word_back.Tie as tie
-
-returns : tie.Need-returns
-returns c = word-back
-
-pub word-back-spec : {M : Type 1} → statement M
-word-back-spec = tie.close (tie.spec returns)

@@ -1,9 +1,0 @@
-use Rattle.claims.proofs.WorkedLoad.{worked-load}
-use Rattle.promises.proofs.worked_load.Statement.{statement}
-use Rattle.promises.proofs.worked_load.Tie as tie
-
-returns : tie.Need-returns
-returns c = worked-load
-
-pub worked-load-spec : {M : Type 1} → statement M
-worked-load-spec = tie.close (tie.spec returns)
