@@ -14,7 +14,8 @@ use Rattle.loader_notes.specs.Notes.{Order}
 use Rattle.loader_effects.specs.Handle.{replied, handle}
 use Rattle.loader_answers.specs.Answer.{answerBytes}
 use Rattle.loader_answers.specs.declared.Body.{Body}
-use Rattle.loader.specs.Step.{taken, answerBuffer, toldOf}
+use Rattle.loader_act.specs.Told.{taken}
+use Rattle.loader_run.specs.Step.{answerBuffer, toldOf}
 use Rattle.cases.specs.Feeding.{Lending, begun, sentCount, sends}
 use Rattle.cases.proofs.Fed.{packet-fed, freshCore, allowed-fresh}
 

@@ -21,11 +21,11 @@ use Rattle.esp_begin.specs.declared.Begin.{Begin}
 use Rattle.esp_begin.proofs.Sectors.{next-block}
 use Rattle.loader_sessions.specs.declared.Session.the-variants.{Flash}
 use Rattle.loader_effects.specs.Core.{Core}
-use Rattle.loader.specs.Step.{Step}
-use Rattle.loader_history.specs.Grammar as grammar
-use Rattle.loader_history.specs.Grammar.{flashBegin, goodBlock, carries}
-use Rattle.loader_history.specs.Loaded.{Loaded}
-use Rattle.loader_history.proofs.Goodness.{block-whole}
+use Rattle.loader_run.specs.Step.{Step}
+use Rattle.grammar.specs.Grammar as grammar
+use Rattle.grammar.specs.Grammar.{flashBegin, goodBlock, carries}
+use Rattle.grammar.specs.Loaded.{Loaded}
+use Rattle.grammar.proofs.Goodness.{block-whole}
 use Rattle.loader_history.proofs.Sessions.{began, accepts}
 use Rattle.loader_history.proofs.Flash.{loadedUpTo, nothing-loaded, Sizes, block-loaded, loaded}
 use Rattle.cases.specs.Feeding.{Lending, begun, fed}

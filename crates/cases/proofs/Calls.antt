@@ -5,10 +5,11 @@ use mathlib.Core.Bool.{true}
 use Prim.Native.Nat.{ℕ, suc, _+_}
 use lib.ListN.{length, drop}
 use Rattle.lists.specs.Lay.{lay}
-use Rattle.loader.specs.Step.{Step, Told, refused, taken, dropped, answered}
-use Rattle.loader.specs.RunStep.{RunStep}
+use Rattle.loader_run.specs.Step.{Step}
+use Rattle.loader_act.specs.Told.{Told, refused, taken, dropped, answered}
+use Rattle.loader_run.specs.RunStep.{RunStep}
 use Rattle.loader_claims.proofs.ChangesNothing.{run-refused-changes-nothing}
-use Rattle.listing_report.specs.Lines.{lineOf, hasSpace}
+use Rattle.listing_lines.specs.Lines.{lineOf, hasSpace}
 use Rattle.listing_report.specs.Listing as report
 use Rattle.listing_report.specs.Listing.{numberAfter, reportOf, listedBy, listStep}
 use Rattle.listing_report.specs.declared.Listing.{Listing}

@@ -9,7 +9,7 @@ use Rattle.lists.specs.Checks.{first}
 use Rattle.fields.specs.Words as words
 use Rattle.fields.specs.Checksum.{xored, checksum}
 use Rattle.fields.specs.Merge.{mergedBits, merged}
-use Rattle.pins.specs.Pins.{twoEqual}
+use Rattle.esp_attach.specs.Pins.{twoEqual}
 use Rattle.pins.specs.Packer.{pinGood, pinField, pinsGood, pinsWord, packingOf}
 use Rattle.slip_framing.specs.Frame.{escaped, framed}
 use Rattle.slip_packets.specs.Packets.{header}

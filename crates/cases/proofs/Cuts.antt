@@ -11,13 +11,14 @@ use lib.Dec.{eqb}
 use lib.ListN.{length, drop}
 use Rattle.lists.proofs.Laws.{lay-nil}
 use Rattle.loader_state.specs.Refusals.{refusal}
-use Rattle.loader.specs.Step.{Step, Told, refused, taken, dropped, answered, bufferLengths, refusing}
-use Rattle.loader.specs.RunStep.{refusingRun}
-use Rattle.loader.proofs.Judged.{run-stopped}
+use Rattle.loader_run.specs.Step.{Step, bufferLengths, refusing}
+use Rattle.loader_act.specs.Told.{Told, refused, taken, dropped, answered}
+use Rattle.loader_run.specs.RunStep.{refusingRun}
+use Rattle.loader_run.proofs.Judged.{run-stopped}
 use Rattle.loader_claims.proofs.ChangesNothing.{empty-run-changes-nothing}
 use Rattle.loader.proofs.Runs.{later}
 use Rattle.loader_claims.specs.HoweverCut.{joined}
-use Rattle.listing_report.specs.Lines.{lineOf, hasSpace}
+use Rattle.listing_lines.specs.Lines.{lineOf, hasSpace}
 use Rattle.listing_report.specs.Listing.{numberAfter, reportOf, full, listedBy, listStep}
 use Rattle.cases.specs.Feeding as feeding
 use Rattle.cases.specs.Listing.{Page, left, countOf, called, calls, listed, listedRuns}

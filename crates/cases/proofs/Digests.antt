@@ -22,8 +22,9 @@ use Rattle.loader_notes.specs.Notes.{no-order}
 use Rattle.loader_effects.specs.Effects.{effect}
 use Rattle.loader_effects.specs.Handle.{carriedOut, failed, handle}
 use Rattle.slip_framing.specs.Frame.{framed, escaped}
-use Rattle.loader_state.specs.Refusals.{flashLength, bufferChecks}
-use Rattle.loader.specs.Step.{bufferLengths}
+use Rattle.esp_begin.specs.Flash.{flashLength}
+use Rattle.loader_state.specs.Refusals.{bufferChecks}
+use Rattle.loader_run.specs.Step.{bufferLengths}
 use Rattle.cases.specs.Feeding.{Lending}
 use Rattle.cases.specs.Packets.{digestPacket}
 use Rattle.cases.specs.Digests.{DigestCases}

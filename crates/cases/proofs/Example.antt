@@ -20,12 +20,13 @@ use Rattle.loader_sessions.specs.Session.{flashOpen}
 use Rattle.loader_effects.specs.Core.{Core}
 use Rattle.loader_effects.specs.Effects.{effect}
 use Rattle.loader_effects.specs.Handle.{carriedOut, failed, handle}
-use Rattle.loader_state.specs.Refusals.{bufferChecks, flashLength, wordCount}
-use Rattle.loader.specs.Step.{bufferLengths, toldOf}
+use Rattle.loader_state.specs.Refusals.{bufferChecks, wordCount}
+use Rattle.esp_begin.specs.Flash.{flashLength}
+use Rattle.loader_run.specs.Step.{bufferLengths, toldOf}
 use Rattle.loader_claims.specs.HoweverCut.{joined}
-use Rattle.listing_report.specs.Numbers.{digits, decimal}
+use Rattle.listing_lines.specs.Numbers.{digits, decimal}
 use Rattle.listing_columns.specs.Columns.{heading}
-use Rattle.listing_report.specs.Lines.{longestLine, lineOf}
+use Rattle.listing_lines.specs.Lines.{longestLine, lineOf}
 use Rattle.listing_report.specs.Listing.{numberAfter}
 use Rattle.cases.specs.Feeding.{Lending, begun}
 use Rattle.cases.specs.Packets.{syncPacket, endPacket}

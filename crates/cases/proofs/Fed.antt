@@ -12,7 +12,7 @@ use Rattle.lists.specs.Lay.{lay}
 use Rattle.lists.specs.Checks.{first}
 use Rattle.lists.proofs.Laws.{length-lay}
 use Rattle.lists.proofs.Tests.{first-passed, first-append}
-use Rattle.pins.proofs.Theorems.{zero-taken}
+use Rattle.esp_attach.proofs.Taken.{zero-taken}
 use Rattle.slip_framing.specs.Frame.{END, longest, escaped, framed, framedAll}
 use Rattle.slip_unframing.specs.Reasons.{whole}
 use Rattle.slip_packets.specs.Packets.{header}
@@ -31,7 +31,10 @@ use Rattle.loader_effects.specs.Core.{Core}
 use Rattle.loader_effects.specs.Handle.{Handled, handle}
 use Rattle.loader_state.specs.Refusals.{BufferLengths, bufferChecks, recordGood, refusal}
 use Rattle.loader_state.specs.Record.{freshLoader}
-use Rattle.loader.specs.Step.{Step, Told, taken, coreOf, step, afterPacket, afterByte, bufferLengths, answerBuffer, toldOf}
+use Rattle.loader_run.specs.Step.{Step, afterPacket, afterByte, bufferLengths, answerBuffer, toldOf}
+use Rattle.loader_act.specs.Told.{Told, taken}
+use Rattle.loader_act.specs.Acts.{coreOf}
+use Rattle.loader.specs.Step.{step}
 use Rattle.loader_state.specs.declared.Loader.{Loader}
 use Rattle.loader_history.proofs.Lengths.{Sound, keeps, sound-after}
 use Rattle.loader_claims.specs.Calls.{Called, stepped, EachCall}

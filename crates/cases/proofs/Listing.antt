@@ -14,8 +14,9 @@ use Rattle.slip_unframing.specs.Reasons.{whole}
 use Rattle.slip_packets.specs.Packets.{header}
 use Rattle.loader_effects.specs.Core.{Core}
 use Rattle.loader_effects.specs.Handle.{handle}
-use Rattle.loader.specs.Step.{Step, Told, toldOf}
-use Rattle.listing_report.specs.Lines.{longestLine, lineOf}
+use Rattle.loader_run.specs.Step.{Step, toldOf}
+use Rattle.loader_act.specs.Told.{Told}
+use Rattle.listing_lines.specs.Lines.{longestLine, lineOf}
 use Rattle.listing_report.specs.Listing.{numberAfter}
 use Rattle.cases.specs.Feeding.{fed}
 use Rattle.cases.specs.Listing.{Page, calls}

@@ -8,7 +8,7 @@ use Rattle.lists.proofs.Tests.{first-append}
 use Rattle.fields.specs.Words.{word, half}
 use Rattle.slip_framing.specs.Frame.{framed, escaped}
 use Rattle.slip_packets.specs.Packets.{header}
-use Rattle.pins.specs.Pins.{noPins, fieldsGood, twoEqual, attachRule, attachApart, attachGood}
+use Rattle.esp_attach.specs.Pins.{noPins, fieldsGood, twoEqual, attachRule, attachApart, attachGood}
 use Rattle.pins.specs.Packer.{pinGood, pinField, pinsGood, pinsWord, packingOf}
 use Rattle.esp_commands.specs.Header.{command, shaped, sized}
 use Rattle.loader_answers.specs.Answer.{plain}

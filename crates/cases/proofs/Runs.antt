@@ -13,8 +13,10 @@ use Rattle.slip_unframing.specs.declared.Line.{Line}
 use Rattle.loader_effects.specs.Core.{Core}
 use Rattle.loader_effects.specs.Handle.{Reply, nothing, replied, handle}
 use Rattle.loader_state.specs.Refusals.{refusal}
-use Rattle.loader.specs.Step.{Step, taken, coreOf, bufferLengths, toldOf, afterPacket, afterByte}
-use Rattle.loader.specs.RunStep.{RunStep, runStep}
+use Rattle.loader_run.specs.Step.{Step, bufferLengths, toldOf, afterPacket, afterByte}
+use Rattle.loader_act.specs.Told.{taken}
+use Rattle.loader_act.specs.Acts.{coreOf}
+use Rattle.loader_run.specs.RunStep.{RunStep, runStep}
 use Rattle.loader_state.specs.declared.Loader.{Loader}
 use Rattle.loader.proofs.Runs.{later, still-good, byte-passed, byte-silent, goes-on, closes-there}
 use Rattle.cases.specs.Feeding.{called, fed}

@@ -9,11 +9,12 @@ use Rattle.slip_framing.specs.Frame.{longest, framedAll}
 use Rattle.slip_unframing.specs.declared.Reason.the-variants.{BadEscape, CutEscape, TooLong, TooShort, WrongDirection}
 use Rattle.loader_answers.specs.Reply.{longestAnswer}
 use Rattle.loader_state.specs.Refusals.{bufferChecks}
-use Rattle.loader.specs.Step.{dropped, bufferLengths}
+use Rattle.loader_act.specs.Told.{dropped}
+use Rattle.loader_run.specs.Step.{bufferLengths}
 use Rattle.loader_claims.specs.HoweverCut.{joined}
-use Rattle.listing_report.specs.Numbers.{decimal}
+use Rattle.listing_lines.specs.Numbers.{decimal}
 use Rattle.listing_columns.specs.Columns.{heading}
-use Rattle.listing_report.specs.Lines.{lineOf, longestLine}
+use Rattle.listing_lines.specs.Lines.{lineOf, longestLine}
 use Rattle.cases.specs.Feeding.{Lending}
 use Rattle.cases.specs.Packets.{syncPacket, endPacket}
 use Rattle.cases.specs.Listing.{Page, opened, calls, listed, listedRuns}

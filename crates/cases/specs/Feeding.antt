@@ -7,7 +7,9 @@ use Rattle.lists.specs.Checks.{first}
 use Rattle.slip_framing.specs.Frame.{framed}
 use Rattle.loader_state.specs.Refusals.{bufferChecks}
 use Rattle.loader_state.specs.Record.{freshLoader}
-use Rattle.loader.specs.Step.{Step, Told, refused, taken, dropped, answered, bufferLengths, step}
+use Rattle.loader_run.specs.Step.{Step, bufferLengths}
+use Rattle.loader_act.specs.Told.{Told, refused, taken, dropped, answered}
+use Rattle.loader.specs.Step.{step}
 
 -- buffers that refusals 1 to 4 let pass
 pub record Lending : Type 0 where

@@ -1,9 +1,10 @@
-// What a BEGIN announces, and the rules for its numbers.
+// What a BEGIN announces, and the rules for its numbers and for the length of flash.
 ghost use mathlib.Core.Path.{_≡_};
 ghost use Prim.Native.Nat.{_+_};
 ghost use lib.Dec.{leb};
 ghost use Rattle.esp_begin.specs.Begin.{beginOf, roundUp, counted, flashRule, memoryEnd, memoryRule, reached};
 ghost use Rattle.esp_begin.specs.Count.{countOf};
+ghost use Rattle.esp_begin.specs.Flash.{flashLength};
 use fields::FIRST_WORD;
 use fields::FOURTH_WORD;
 use fields::SECOND_WORD;
@@ -46,6 +47,17 @@ pub fn round_up(x: u32) -> u64
     ensures { λ r. ⌜ r ≡ roundUp x ⌝ }
 {
     x as u64 + ((SECTOR - x % SECTOR) % SECTOR) as u64
+}
+
+// The longest flash: 4 MiB.
+pub const LONGEST_FLASH: usize = 4194304;
+
+// Refusal 3, the sending end's too: flash is a multiple of a sector, up to 4 MiB. A sector's length is a power of 2, so a multiple has
+// none of the bits below.
+pub fn flash_length_good(n: usize) -> bool
+    ensures { λ r. ⌜ r ≡ flashLength n ⌝ }
+{
+    (1 <= n) & (((n & (SECTOR as usize - 1)) == 0) & (n <= LONGEST_FLASH))
 }
 
 // The count of no bytes, and of blocks of none.

@@ -1,13 +1,14 @@
-// What a read packet says: its command, the shape of its body, a block's data. No record, no session.
+// What packets say: a read one's command, the shape of its body, a block's data; an answer's status. No record, no session.
 ghost use mathlib.Core.Path.{_≡_};
-ghost use Prim.Native.Nat.{_-_};
 ghost use Rattle.esp_commands.specs.Header.{command, sized, shaped, dataShaped};
 ghost use Rattle.esp_commands.specs.Block.{zeroWords, sumGood, paddingGood};
+ghost use Rattle.esp_commands.specs.Status.{statusOf};
 use esp_begin::Begin;
 use fields::FIRST_WORD;
 use fields::FOURTH_WORD;
 use fields::HEADER;
 use fields::THIRD_WORD;
+use lists::saturating_sub;
 
 // ---- the commands by number
 
@@ -41,16 +42,6 @@ pub const DATA_AT: usize = 24;
 
 // ---- the header
 
-// What is left of n past k.
-pub fn past(n: usize, k: usize) -> usize
-    ensures { λ r. ⌜ r ≡ n - k ⌝ }
-{
-    if k <= n {
-        return n - k;
-    }
-    0
-}
-
 // The command's number.
 pub fn command_of(packet: &[u8]) -> u8
     ensures { λ r. ⌜ r ≡ command (now (packet .entry)) ⌝ }
@@ -65,23 +56,23 @@ pub fn command_of(packet: &[u8]) -> u8
 fn size_told(packet: &[u8]) -> bool
     ensures { λ r. ⌜ r ≡ sized (now (packet .entry)) ⌝ }
 {
-    fields::half_at(packet, 2) as usize == past(packet.len(), HEADER)
+    fields::half_at(packet, 2) as usize == saturating_sub(packet.len(), HEADER)
 }
 
 // Whether a packet passes the 0xC0 check of a command whose body is n bytes long.
 pub fn shape_good(packet: &[u8], n: usize) -> bool
     ensures { λ r. ⌜ r ≡ shaped n (now (packet .entry)) ⌝ }
 {
-    size_told(packet) & (past(packet.len(), HEADER) == n)
+    size_told(packet) & (saturating_sub(packet.len(), HEADER) == n)
 }
 
 // Whether a packet passes the 0xC0 check of a data command.
 pub fn data_shape_good(packet: &[u8]) -> bool
     ensures { λ r. ⌜ r ≡ dataShaped (now (packet .entry)) ⌝ }
 {
-    let length = past(packet.len(), HEADER);
+    let length = saturating_sub(packet.len(), HEADER);
     let size = fields::word_at(packet, FIRST_WORD) as usize;
-    size_told(packet) & ((FOUR_WORDS <= length) & (size == past(length, FOUR_WORDS)))
+    size_told(packet) & ((FOUR_WORDS <= length) & (size == saturating_sub(length, FOUR_WORDS)))
 }
 
 // ---- a data command
@@ -107,4 +98,16 @@ pub fn padding_good(begin: Begin, k: u32, packet: &[u8]) -> bool
 {
     let left = begin.size - esp_begin::reach(begin, k);
     lists::all_from(packet, DATA_AT + left as usize, 0xFF)
+}
+
+// ---- an answer
+
+// The status byte that is sent with an error byte.
+pub fn status_of(error: u8) -> u8
+    ensures { λ r. ⌜ r ≡ statusOf error ⌝ }
+{
+    if error == 0 {
+        return 0;
+    }
+    1
 }

@@ -70,5 +70,5 @@ pub fn digest_good(lengths: Lengths, packet: &[u8]) -> bool
 pub fn place_of(address: u64) -> usize
     ensures { λ r. ⌜ r ≡ place address ⌝ }
 {
-    esp_commands::past(address as usize, MEMORY_START as usize) >> 2
+    lists::saturating_sub(address as usize, MEMORY_START as usize) >> 2
 }

@@ -1,12 +1,11 @@
--- The requests of a load into flash, unframed (request Six).
+-- The requests around the blocks of a load into flash, unframed (request Six).
 use mathlib.Core.List.{List, _∷_, _++_}
-use Prim.Native.Nat.{ℕ, _-_}
+use Prim.Native.Nat.{ℕ}
 use lib.ListN.{length, replicate}
 use Rattle.fields.specs.Words.{bytesOf}
 use Rattle.fields.specs.Header.{headerOf}
-use Rattle.fields.specs.Checksum.{checksum}
 use Rattle.esp_begin.specs.declared.Begin.{Begin}
-use Rattle.esp_commands.specs.Numbers.{FLASH-BEGIN, FLASH-DATA, FLASH-END, SYNC}
+use Rattle.esp_commands.specs.Numbers.{FLASH-BEGIN, FLASH-END, SYNC}
 
 -- "Header: direction 0, command, size (2 bytes), checksum (4 bytes), then the body."
 unfoldable pub request : (command sum : ℕ) (body : List ℕ) → List ℕ
@@ -24,15 +23,6 @@ syncPacket = request SYNC noSum (0x07 ∷ 0x07 ∷ 0x12 ∷ 0x20 ∷ replicate 3
 unfoldable pub beginPacket : Begin → List ℕ
 beginPacket g =
     request FLASH-BEGIN noSum (bytesOf (g .size) ++ (bytesOf (g .count) ++ (bytesOf (g .block) ++ bytesOf (g .offset))))
-
--- "the padded blocks": 0xFF behind some bytes, up to the block size
-unfoldable pub padded : (block : ℕ) (bytes : List ℕ) → List ℕ
-padded block bytes = bytes ++ replicate (block - length bytes) 0xFF
-
--- FLASH_DATA: "data size, sequence, 0, 0, data", with the checksum of the data; the data size field is the block size
-unfoldable pub dataPacket : (block k : ℕ) (bytes : List ℕ) → List ℕ
-dataPacket block k bytes =
-    request FLASH-DATA (checksum bytes) (bytesOf block ++ (bytesOf k ++ (bytesOf 0 ++ (bytesOf 0 ++ bytes))))
 
 -- FLASH_END: "one word, .. 1 stay"
 unfoldable pub endPacket : List ℕ

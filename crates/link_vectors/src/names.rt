@@ -1,4 +1,10 @@
 // The operations, by their names in the table: the calls, of which `POLL` is the last, and then what is read off.
+
+// Each name has the number of its place here.
+pub const NAMES: [u8; 61] = *b"\
+    pull\trepull\thear\tsend\tpoll\t\
+    rate\tphase\tsent\thanded\theard\tlost\t";
+
 pub const PULL: u8 = 0;
 
 pub const REPULL: u8 = 1;
@@ -20,49 +26,3 @@ pub const HANDED: u8 = 8;
 pub const HEARD: u8 = 9;
 
 pub const LOST: u8 = 10;
-
-// No operation has it.
-pub const UNKNOWN: u8 = 255;
-
-// A call's number.
-fn call_of(name: &[u8]) -> u8 {
-    if lists::same(name, b"pull") {
-        return PULL;
-    }
-    if lists::same(name, b"repull") {
-        return REPULL;
-    }
-    if lists::same(name, b"hear") {
-        return HEAR;
-    }
-    if lists::same(name, b"send") {
-        return SEND;
-    }
-    if lists::same(name, b"poll") {
-        return POLL;
-    }
-    UNKNOWN
-}
-
-// An operation's number.
-pub fn number_of(name: &[u8]) -> u8 {
-    if lists::same(name, b"rate") {
-        return RATE;
-    }
-    if lists::same(name, b"phase") {
-        return PHASE;
-    }
-    if lists::same(name, b"sent") {
-        return SENT;
-    }
-    if lists::same(name, b"handed") {
-        return HANDED;
-    }
-    if lists::same(name, b"heard") {
-        return HEARD;
-    }
-    if lists::same(name, b"lost") {
-        return LOST;
-    }
-    call_of(name)
-}

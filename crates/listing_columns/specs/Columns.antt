@@ -1,19 +1,9 @@
--- The listing's columns in ASCII: "fields parted by tabs, hex in upper case".
-use Prim.Native.Nat.{ℕ, _+_, _-_, _/_, _%_}
+-- The listing's columns in ASCII: "fields parted by tabs".
+use Prim.Native.Nat.{ℕ, _-_}
 use mathlib.Core.Path.{_≡_}
 use mathlib.Core.List.{List, [], _∷_, _++_}
-use mathlib.Core.Bool.{cond}
-use lib.Dec.{ltb}
 use lib.ListN.{length, take, drop, replicate}
 use Rattle.listing_columns.specs.declared.DroppedFields.{DroppedFields}
-
--- a digit below 16: 0 to 9, then A to F
-abbrev pub hexDigit : ℕ → ℕ
-hexDigit d = cond (ltb d 10) (48 + d) (65 + (d - 10))
-
--- a byte as two digits, the higher one first
-abbrev pub hex2 : ℕ → List ℕ
-hex2 b = hexDigit (b / 16) ∷ hexDigit (b % 16) ∷ []
 
 abbrev tab : ℕ
 tab = 9

@@ -1,21 +1,20 @@
 // The columns of the listing: its heading, and what stands behind a packet's number.
-use loader_answers::status_of;
+use digits::hex;
+use esp_commands::status_of;
 use slip_unframing::Reason;
 ghost use mathlib.Core.Path.{_≡_};
-ghost use Prim.Native.Nat.{_<_};
+ghost use Rattle.digits.specs.Hex.{hex2};
 ghost use Rattle.slip_unframing.specs.Reasons.{letters};
-ghost use Rattle.loader_answers.specs.Answer.{statusOf};
+ghost use Rattle.esp_commands.specs.Status.{statusOf};
 ghost use Rattle.listing_columns.specs.Columns.{heading as Columns·heading};
-ghost use Rattle.listing_columns.specs.Columns.{hexDigit, hex2, fieldsOf, dashes, Holds};
+ghost use Rattle.listing_columns.specs.Columns.{fieldsOf, dashes, Holds};
 
 const TAB: u8 = b'\t';
 
 const LINE_FEED: u8 = b'\n';
 
-// The heading's bytes; a byte's two digits; what stands behind the number of a packet that was read.
+// The heading's bytes; what stands behind the number of a packet that was read.
 pub type HeadingBytes = [u8; 24];
-
-pub type HexDigits = [u8; 2];
 
 pub type RowFields = [u8; 10];
 
@@ -23,20 +22,6 @@ pub type RowFields = [u8; 10];
 pub struct DroppedFields {
     pub bytes: [u8; 13],
     pub count: usize,
-}
-
-fn hex_digit(d: u8) -> u8
-    requires { ⌜ d < 16 ⌝ }
-    ensures { λ r. ⌜ r ≡ hexDigit d ⌝ }
-{
-    if d < 10 { b'0' + d } else { b'A' + (d - 10) }
-}
-
-// A byte as two hexadecimal digits, in upper case.
-pub fn hex(byte: u8) -> HexDigits
-    ensures { λ r. ⌜ r ≡ hex2 byte ⌝ }
-{
-    [hex_digit(byte / 16), hex_digit(byte % 16)]
 }
 
 // The listing's first line.

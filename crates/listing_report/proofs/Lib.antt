@@ -1,3 +1,2 @@
-pub mod Decimals
-pub mod Rows
+pub mod Reports
 pub mod Progress

@@ -5,10 +5,10 @@ use mathlib.Core.List.{List}
 use mathlib.Core.Bool.{Bool, true, false, cond}
 use native.Mathlib.Omega.{arith}
 use lib.ListN.{length}
-use Rattle.loader.specs.Step.{Told, refused, taken, dropped, answered}
-use Rattle.loader.specs.RunStep.{RunStep, runStep}
+use Rattle.loader_act.specs.Told.{Told, refused, taken, dropped, answered}
+use Rattle.loader_run.specs.RunStep.{RunStep, runStep}
 use Rattle.loader.proofs.Runs.{counted}
-use Rattle.listing_report.specs.Lines.{hasSpace}
+use Rattle.listing_lines.specs.Lines.{hasSpace}
 use Rattle.listing_report.specs.Listing.{listed, listReport, reportOf, full, listedBy, listStep}
 use Rattle.listing_report.specs.declared.Listing.{Listing}
 use Rattle.listing_report.specs.declared.Listed.{Listed}

@@ -1,3 +1,1 @@
-pub mod Numbers
-pub mod Lines
 pub mod Listing

@@ -6,9 +6,9 @@ use mathlib.Core.Bool.{cond}
 use lib.ListN.{length}
 use Rattle.lists.specs.Lay.{lay}
 use Rattle.loader_state.specs.Record.{freshLoader}
-use Rattle.loader.specs.Step.{Told, refused, taken, dropped, answered}
-use Rattle.loader.specs.RunStep.{RunStep, runStep}
-use Rattle.listing_report.specs.Lines.{lineOf, hasSpace}
+use Rattle.loader_act.specs.Told.{Told, refused, taken, dropped, answered}
+use Rattle.loader_run.specs.RunStep.{RunStep, runStep}
+use Rattle.listing_lines.specs.Lines.{lineOf, hasSpace}
 use Rattle.listing_report.specs.declared.Listing.{Listing}
 use Rattle.listing_report.specs.declared.Listed.{Listed}
 use Rattle.listing_report.specs.declared.Listed.the-variants.{Full, Refused, Fed}

@@ -14,11 +14,13 @@ use Rattle.slip_runs.specs.Run.{runOf}
 use Rattle.slip_runs.proofs.Passing.{goes, stops}
 use Rattle.slip_runs.proofs.Theorems.{takes-most, takes-some}
 use Rattle.loader_state.specs.Refusals.{refusal}
-use Rattle.loader.specs.Step.{refused, taken, keeping, refusing, afterByte, bufferLengths, step}
-use Rattle.loader.specs.RunStep.{RunStep, runStep, taking, refusingRun}
+use Rattle.loader_act.specs.Told.{refused, taken}
+use Rattle.loader_run.specs.Step.{keeping, refusing, afterByte, bufferLengths}
+use Rattle.loader.specs.Step.{step}
+use Rattle.loader_run.specs.RunStep.{RunStep, runStep, taking, refusingRun}
 use Rattle.loader_state.specs.declared.Loader.{Loader}
 use Rattle.loader_state.proofs.LetPass.{let-pass, no-refusal}
-use Rattle.loader.proofs.Judged.{judged-once, run-passed}
+use Rattle.loader_run.proofs.Judged.{judged-once, run-passed}
 
 -- so many bytes of the run were taken before
 abbrev pub later : ℕ → RunStep → RunStep

@@ -2,13 +2,10 @@
 use mathlib.Core.List.{List, [], _∷_, _++_}
 use mathlib.Core.Bool.{true, false, cond}
 use Prim.Native.Nat.{ℕ}
-use lib.Dec.{eqb}
 use lib.ListN.{length, replicate}
 use Rattle.fields.specs.Header.{headerOf}
+use Rattle.esp_commands.specs.Status.{statusOf}
 use Rattle.loader_answers.specs.declared.Body.{Body}
-
-abbrev pub statusOf : ℕ → ℕ
-statusOf error = cond (eqb error 0) 0 1
 
 -- the status bytes that end an answer
 abbrev pub statusBytes : ℕ → List ℕ

@@ -1,9 +1,10 @@
 // The answer to a read packet, framed at the front of the answer buffer.
+use esp_commands::status_of;
 use slip_framing::Framed;
 use slip_framing::LONGEST;
 ghost use mathlib.Core.Path.{_≡_};
 ghost use mathlib.Core.List.{_++_};
-ghost use Rattle.loader_answers.specs.Answer.{statusOf, statusBytes, plain, answerWith, answerBytes};
+ghost use Rattle.loader_answers.specs.Answer.{statusBytes, plain, answerWith, answerBytes};
 ghost use Rattle.loader_answers.specs.Reply.{Replies};
 
 // The least answer buffer: no answer is longer than 26 bytes, 8 of header, 16 of digest and 2 of status, each escaped to at most two,
@@ -32,16 +33,6 @@ pub fn plain() -> Body
         digested: false,
         digest: [0; 16],
     }
-}
-
-// The status byte that is sent with an error byte.
-pub fn status_of(error: u8) -> u8
-    ensures { λ r. ⌜ r ≡ statusOf error ⌝ }
-{
-    if error == 0 {
-        return 0;
-    }
-    1
 }
 
 // The status bytes that end an answer.

@@ -29,7 +29,8 @@ use Rattle.loader_sessions.specs.Session.{sessionGood}
 use Rattle.loader_effects.specs.Handle.{handle}
 use Rattle.loader_state.specs.Refusals.{lengthsOf, recordGood}
 use Rattle.loader_state.specs.Refusals as loader
-use Rattle.loader.specs.Step.{taken, afterPacket, afterByte, bufferLengths}
+use Rattle.loader_act.specs.Told.{taken}
+use Rattle.loader_run.specs.Step.{afterPacket, afterByte, bufferLengths}
 use Rattle.loader_history.proofs.Lengths.{Sound}
 use Rattle.loader_claims.specs.Calls.{Machine, Call, stepped, next, passes, closingCall, closingCalls}
 use Rattle.loader_claims.specs.CallHistory.{coreAt}

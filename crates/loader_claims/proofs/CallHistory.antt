@@ -5,7 +5,7 @@ use mathlib.Core.Option.{none}
 use Prim.Native.Nat.{ℕ, zero, suc, _<_}
 use native.Mathlib.Omega.{arith}
 use lib.ListN.{length, getD}
-use Rattle.pins.proofs.Theorems.{zero-taken}
+use Rattle.esp_attach.proofs.Taken.{zero-taken}
 use Rattle.slip_packets.specs.Packets.{classify, stretches, stored, packets}
 use Rattle.slip_packets.specs.Theorems.{closedAs}
 use Rattle.slip_packets.proofs.Cut.{todo}

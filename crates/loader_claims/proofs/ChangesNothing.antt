@@ -18,11 +18,14 @@ use Rattle.loader_effects.specs.Core.{Core, lengths}
 use Rattle.loader_notes.specs.Notes.{Order}
 use Rattle.loader_effects.specs.Handle.{Reply, nothing, replied, carriedOut, failed, handle}
 use Rattle.loader_state.specs.Refusals.{refusal}
-use Rattle.loader.specs.Step.{Step, refused, dropped, answered, step, refusing, coreOf, bufferLengths, answerBuffer, toldOf, afterPacket, afterByte}
-use Rattle.loader.specs.RunStep.{runStep, taking, refusingRun}
+use Rattle.loader_run.specs.Step.{Step, refusing, bufferLengths, answerBuffer, toldOf, afterPacket, afterByte}
+use Rattle.loader_act.specs.Told.{refused, dropped, answered}
+use Rattle.loader.specs.Step.{step}
+use Rattle.loader_act.specs.Acts.{coreOf}
+use Rattle.loader_run.specs.RunStep.{runStep, taking, refusingRun}
 use Rattle.loader_claims.specs.ChangesNothing.{Refused, RefusedChangesNothing, RunRefusedChangesNothing, EmptyRunChangesNothing, failing, dropping, Closes, Errs, Failed, FailedChangesNothing, RunFailedChangesNothing}
 use Rattle.loader_state.specs.declared.Loader.{Loader}
-use Rattle.loader.proofs.Judged.{judged-once, run-passed, run-stopped}
+use Rattle.loader_run.proofs.Judged.{judged-once, run-passed, run-stopped}
 
 -- ---- a dropped packet
 

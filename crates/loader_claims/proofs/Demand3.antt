@@ -10,7 +10,7 @@ use Rattle.esp_commands.specs.Numbers.{FLASH-END}
 use Rattle.loader_sessions.specs.Session.{flashOpen, sessionGood}
 use Rattle.loader_effects.specs.Core.{Core, lengths}
 use Rattle.loader_effects.specs.Handle.{Reply, nothing, replied}
-use Rattle.loader.specs.Step.{toldOf}
+use Rattle.loader_run.specs.Step.{toldOf}
 use Rattle.loader_history.specs.History.{history, handledAt, endSucceeds}
 use Rattle.loader_history.specs.Theorems.{FollowsGrammar}
 use Rattle.loader_history.proofs.Agreement.{begin-below}

@@ -33,7 +33,9 @@ use Rattle.loader_effects.specs.Effects.{effect}
 use Rattle.loader_notes.specs.Notes.{no-order}
 use Rattle.loader_effects.specs.Handle.{replied, carriedOut, handle}
 use Rattle.loader_effects.specs.Core.{Core, lengths}
-use Rattle.loader.specs.Step.{Step, answered, keeping, coreOf, toldOf, answerBuffer, afterPacket, afterByte}
+use Rattle.loader_run.specs.Step.{Step, keeping, toldOf, answerBuffer, afterPacket, afterByte}
+use Rattle.loader_act.specs.Told.{answered}
+use Rattle.loader_act.specs.Acts.{coreOf}
 use Rattle.loader_state.specs.declared.Loader.{Loader}
 use Rattle.loader_claims.specs.ChangesNothing.{failing}
 use Rattle.loader_claims.specs.Digest.{GoodWords, named, digestAnswer, digesting, DigestCall, DigestAnswered, RunDigestAnswered, LoadIsDigested}

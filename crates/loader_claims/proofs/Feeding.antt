@@ -11,9 +11,11 @@ use lib.ListN.{take, drop}
 use Rattle.slip_packets.specs.Packets.{header}
 use Rattle.slip_unframing.specs.Line.{Closed, stepOf}
 use Rattle.loader_effects.specs.Handle.{Reply, nothing, replied, handle}
-use Rattle.loader.specs.Step.{Step, taken, toldOf, refusing, afterByte, afterPacket, coreOf}
-use Rattle.loader.specs.RunStep.{RunStep, refusingRun}
-use Rattle.loader.proofs.Judged.{run-stopped}
+use Rattle.loader_run.specs.Step.{Step, toldOf, refusing, afterByte, afterPacket}
+use Rattle.loader_act.specs.Told.{taken}
+use Rattle.loader_act.specs.Acts.{coreOf}
+use Rattle.loader_run.specs.RunStep.{RunStep, refusingRun}
+use Rattle.loader_run.proofs.Judged.{run-stopped}
 use Rattle.loader_claims.proofs.ChangesNothing.{refused-changes-nothing, empty-run-changes-nothing}
 use Rattle.loader.proofs.Runs.{stepped-on, later, still-good, byte-passed, byte-silent, goes-on, closes-there}
 use Rattle.loader_claims.specs.Calls.{Machine, stepped, next}

@@ -13,9 +13,9 @@ use Rattle.slip_unframing.specs.Line.{Closed, stepOf}
 use Rattle.slip_unframing.proofs.Kept.{step-keeps}
 use Rattle.slip_runs.proofs.Theorems.{takes-some}
 use Rattle.loader_answers.specs.Reply.{longestAnswer}
-use Rattle.loader.specs.Step.{afterPacket, bufferLengths}
-use Rattle.loader.specs.RunStep.{taking}
-use Rattle.loader.proofs.Judged.{run-passed}
+use Rattle.loader_run.specs.Step.{afterPacket, bufferLengths}
+use Rattle.loader_run.specs.RunStep.{taking}
+use Rattle.loader_run.proofs.Judged.{run-passed}
 use Rattle.loader_state.proofs.LetPass.{let-pass, no-refusal, for-answer}
 use Rattle.loader_history.proofs.Lengths.{keeps}
 use Rattle.loader_claims.specs.Calls.{next}

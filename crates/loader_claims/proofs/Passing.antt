@@ -23,8 +23,9 @@ use Rattle.loader_answers.specs.Reply.{longestAnswer}
 use Rattle.loader_answers.proofs.Replies.{answer-most}
 use Rattle.loader_state.specs.Refusals.{BufferLengths, bufferChecks, lengthsOf, recordGood, refusal}
 use Rattle.loader.specs.Step as loader
-use Rattle.loader.specs.Step.{refused, taken, toldOf, answerBuffer, afterByte, bufferLengths}
-use Rattle.loader.specs.RunStep.{runStep, taking, refusingRun}
+use Rattle.loader_act.specs.Told.{refused, taken}
+use Rattle.loader_run.specs.Step.{toldOf, answerBuffer, afterByte, bufferLengths}
+use Rattle.loader_run.specs.RunStep.{runStep, taking, refusingRun}
 use Rattle.loader_history.proofs.Lengths.{Sound}
 use Rattle.loader_claims.specs.Calls.{Machine, Call, stepped, passes, ClosingCall, closingCall, Sent}
 use Rattle.loader_claims.specs.RunCalls.{RunCall, ran, passesRun}

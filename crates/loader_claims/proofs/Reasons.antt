@@ -6,8 +6,8 @@ use lib.ListN.{length}
 use Rattle.slip_packets.specs.Packets.{packets}
 use Rattle.loader_effects.specs.Core.{Core}
 use Rattle.loader_effects.specs.Handle.{handle}
-use Rattle.loader.specs.Step.{toldOf}
-use Rattle.loader_history.specs.Grammar.{packet}
+use Rattle.loader_run.specs.Step.{toldOf}
+use Rattle.grammar.specs.Grammar.{packet}
 use Rattle.loader_history.proofs.Agreement.{coreAfter, history-at}
 use Rattle.loader_claims.specs.Calls.{ClosingCall, closingAt}
 use Rattle.loader_claims.specs.CallHistory.{storedAt, TellsHistory}

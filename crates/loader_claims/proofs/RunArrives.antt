@@ -8,9 +8,9 @@ use Rattle.slip_packets.specs.Theorems.{BetweenPackets}
 use Rattle.slip_packets.proofs.Theorems.{leaves}
 use Rattle.slip_runs.proofs.Theorems.{run-comes-back}
 use Rattle.loader_state.specs.Refusals.{refusal}
-use Rattle.loader.specs.Step.{afterByte, bufferLengths}
-use Rattle.loader.specs.RunStep.{taking}
-use Rattle.loader.proofs.Judged.{run-passed}
+use Rattle.loader_run.specs.Step.{afterByte, bufferLengths}
+use Rattle.loader_run.specs.RunStep.{taking}
+use Rattle.loader_run.proofs.Judged.{run-passed}
 use Rattle.loader_state.proofs.LetPass.{let-pass, for-packet}
 use Rattle.loader_claims.specs.RunCalls.{ran}
 use Rattle.loader_claims.specs.Calls.{Machine}

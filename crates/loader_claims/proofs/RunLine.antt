@@ -21,8 +21,9 @@ use Rattle.slip_runs.specs.Run.{runOf}
 use Rattle.slip_runs.proofs.Cut.{RunsTo, goes-whole, closes-at, run-fed}
 use Rattle.loader_effects.specs.Core.{Core}
 use Rattle.loader_effects.specs.Handle.{handle}
-use Rattle.loader.specs.Step.{refused, refusing, afterByte, afterPacket}
-use Rattle.loader.specs.RunStep.{RunStep, taking, refusingRun}
+use Rattle.loader_act.specs.Told.{refused}
+use Rattle.loader_run.specs.Step.{refusing, afterByte, afterPacket}
+use Rattle.loader_run.specs.RunStep.{RunStep, taking, refusingRun}
 use Rattle.loader_history.specs.Theorems.{Keeps}
 use Rattle.loader_history.proofs.Lengths.{keeps, sound-after}
 use Rattle.loader_claims.specs.Calls.{Machine, closingCall, Sent}

@@ -13,12 +13,13 @@ use Rattle.slip_framing.specs.Frame.{longest, framed, escaped}
 use Rattle.slip_packets.specs.Packets.{Packet, read, packets, stretches, ended, onto, nonempty}
 use Rattle.esp_begin.specs.Begin.{sector, beginOf, roundUp}
 use Rattle.esp_commands.specs.Block.{payload}
-use Rattle.loader_state.specs.Refusals.{bufferChecks, flashLength, wordCount}
-use Rattle.loader.specs.Step.{Told, refused, taken, dropped, answered}
-use Rattle.loader_history.specs.Grammar.{begins, carries, packet, Fits}
-use Rattle.loader_history.specs.Loaded.{image, Loaded}
-use Rattle.loader_history.specs.Witness.{workedBegin, workedBlock, workedEnd, workedLine, workedChoice}
-use Rattle.loader_history.proofs.Witness.{worked-packets, worked-fits}
+use Rattle.loader_state.specs.Refusals.{bufferChecks, wordCount}
+use Rattle.esp_begin.specs.Flash.{flashLength}
+use Rattle.loader_act.specs.Told.{Told, refused, taken, dropped, answered}
+use Rattle.grammar.specs.Grammar.{begins, carries, packet, Fits}
+use Rattle.grammar.specs.Loaded.{image, Loaded}
+use Rattle.grammar.specs.Witness.{workedBegin, workedBlock, workedEnd, workedLine, workedChoice}
+use Rattle.grammar.proofs.Witness.{worked-packets, worked-fits}
 use Rattle.loader_claims.specs.Calls.{Machine, Call, start, stepped, next, passes, lineBytes, ClosingCall, closingCall, closingCalls, closingAt, Called, EachCall}
 use Rattle.loader_claims.specs.Demand3.{Grammatical, Holds}
 use Rattle.loader_claims.specs.Arrives.{bytes, after}

@@ -1,4 +1,4 @@
--- That calls make a history of packets: the half of demand 3 that speaks of calls. What holds over such a history is `PacketsLoad` of the crate history.
+-- That calls make a history of packets: the half of demand 3 that speaks of calls. What holds over such a history is `PacketsLoad` of the crate loader_history.
 use mathlib.Core.Path.{_≡_}
 use mathlib.Core.List.{List, []}
 use Prim.Native.Nat.{ℕ, _<_}
@@ -6,7 +6,8 @@ use lib.ListN.{length, getD}
 use Rattle.slip_packets.specs.Packets.{stretches, stored, packets}
 use Rattle.loader_effects.specs.Core.{Core}
 use Rattle.loader_effects.specs.Handle.{Handled}
-use Rattle.loader.specs.Step.{toldOf, coreOf}
+use Rattle.loader_run.specs.Step.{toldOf}
+use Rattle.loader_act.specs.Acts.{coreOf}
 use Rattle.loader_history.specs.History.{history, handledAt}
 use Rattle.loader_claims.specs.Calls.{Machine, Call, start, lineBytes, ClosingCall, closingCalls, closingAt}
 

@@ -13,7 +13,8 @@ use Rattle.loader_answers.specs.Answer.{answerWith}
 use Rattle.loader_state.specs.Refusals.{bufferChecks}
 use Rattle.loader.specs.Step as loader
 use Rattle.loader_state.specs.Record.{freshLoader}
-use Rattle.loader.specs.Step.{Step, Told, refused, taken, dropped, answered, bufferLengths}
+use Rattle.loader_run.specs.Step.{Step, bufferLengths}
+use Rattle.loader_act.specs.Told.{Told, refused, taken, dropped, answered}
 use Rattle.loader_state.specs.declared.Loader.{Loader}
 
 -- what a call leaves for the next: the record, packet buffer, flash and words

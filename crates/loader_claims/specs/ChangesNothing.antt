@@ -17,8 +17,11 @@ use Rattle.loader_answers.specs.Answer.{plain, answerBytes}
 use Rattle.loader_effects.specs.Core.{lengths}
 use Rattle.loader_notes.specs.Notes.{Order, no-order}
 use Rattle.loader_state.specs.Refusals.{refusal}
-use Rattle.loader.specs.RunStep.{runStep}
-use Rattle.loader.specs.Step.{Step, refused, taken, dropped, answered, step, keeping, refusing, coreOf, bufferLengths}
+use Rattle.loader_run.specs.RunStep.{runStep}
+use Rattle.loader_run.specs.Step.{Step, keeping, refusing, bufferLengths}
+use Rattle.loader_act.specs.Told.{refused, taken, dropped, answered}
+use Rattle.loader.specs.Step.{step}
+use Rattle.loader_act.specs.Acts.{coreOf}
 use Rattle.loader_state.specs.declared.Loader.{Loader}
 
 -- "A bad call gets its number from document 01 and changes nothing that was lent or handed over.": of a call with the record r and these buffers that comes to x

@@ -7,8 +7,8 @@ use Prim.Native.Nat.{ℕ, suc, _<_}
 use lib.ListN.{length, take}
 use Rattle.slip_packets.specs.Packets.{Packet, packets}
 use Rattle.esp_begin.specs.declared.Lengths.{Lengths}
-use Rattle.loader_history.specs.Grammar.{Choice, Fits, packet, begins}
-use Rattle.loader_history.specs.Loaded.{image, Loaded}
+use Rattle.grammar.specs.Grammar.{Choice, Fits, packet, begins}
+use Rattle.grammar.specs.Loaded.{image, Loaded}
 use Rattle.loader_claims.specs.Calls.{Call, start, lineBytes, ClosingCall, closingCalls, closingAt, endsWell, EachCall}
 
 -- ps: the packets of the line; hs: the calls that closed one; l: the lengths lent.

@@ -21,10 +21,12 @@ use Rattle.esp_commands.specs.Header.{FOUR-WORDS, command, shaped}
 use Rattle.loader_errors.specs.Numbers.{wrongSize, badParameter}
 use Rattle.loader_notes.specs.Notes.{no-order}
 use Rattle.loader_state.specs.Refusals.{refusal}
-use Rattle.loader.specs.RunStep.{runStep}
-use Rattle.loader.specs.Step.{Step, answered, step, keeping, bufferLengths}
+use Rattle.loader_run.specs.RunStep.{runStep}
+use Rattle.loader_run.specs.Step.{Step, keeping, bufferLengths}
+use Rattle.loader_act.specs.Told.{answered}
+use Rattle.loader.specs.Step.{step}
 use Rattle.loader_state.specs.declared.Loader.{Loader}
-use Rattle.loader_history.specs.Loaded.{Loaded}
+use Rattle.grammar.specs.Loaded.{Loaded}
 use Rattle.loader_claims.specs.ChangesNothing.{failing}
 
 -- "address, size, 0, 0", and the bytes named lie in a flash of n bytes: address plus size as whole numbers, so size 0 is good, and the address at the very end

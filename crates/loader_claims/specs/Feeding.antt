@@ -2,7 +2,8 @@
 use mathlib.Core.List.{List, [], _∷_, _++_}
 use Prim.Native.Nat.{ℕ, zero, suc}
 use lib.ListN.{drop}
-use Rattle.loader.specs.Step.{Step, Told, refused, taken, dropped, answered}
+use Rattle.loader_run.specs.Step.{Step}
+use Rattle.loader_act.specs.Told.{Told, refused, taken, dropped, answered}
 use Rattle.loader_claims.specs.Calls.{Machine, Call, stepped, next}
 use Rattle.loader_claims.specs.RunCalls.{RunCall, ran, nextRun}
 

@@ -4,7 +4,7 @@ use mathlib.Core.List.{List, [], _∷_, _++_}
 use Prim.Native.Nat.{ℕ, suc}
 use lib.ListN.{length}
 use Rattle.loader_state.specs.Refusals.{refusal}
-use Rattle.loader.specs.Step.{bufferLengths}
+use Rattle.loader_run.specs.Step.{bufferLengths}
 use Rattle.loader_claims.specs.Feeding.{State, Feeding, unfed, andThen, byBytes, handOver}
 
 -- runs end to end: the stream that they are cut from

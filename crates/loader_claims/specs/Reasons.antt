@@ -6,8 +6,8 @@ use lib.ListN.{length}
 use Rattle.slip_packets.specs.Packets as cut
 use Rattle.slip_packets.specs.Packets.{packets}
 use Rattle.slip_unframing.specs.declared.Reason.{Reason}
-use Rattle.loader.specs.Step.{dropped}
-use Rattle.loader_history.specs.Grammar.{packet}
+use Rattle.loader_act.specs.Told.{dropped}
+use Rattle.grammar.specs.Grammar.{packet}
 use Rattle.loader_claims.specs.Calls.{Call, start, lineBytes, ClosingCall, closingCalls, closingAt}
 use Rattle.loader_claims.specs.CallHistory.{storedAt}
 use Rattle.loader_claims.specs.RunCalls.{RunCall, lineTaken, closingRuns}

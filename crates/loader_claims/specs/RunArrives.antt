@@ -12,7 +12,7 @@ use Rattle.slip_packets.specs.Theorems.{BetweenPackets}
 use Rattle.slip_unframing.specs.declared.Phase.the-variants.{Inside}
 use Rattle.loader_effects.specs.Handle.{handle}
 use Rattle.loader_state.specs.Refusals.{refusal}
-use Rattle.loader.specs.Step.{afterPacket, bufferLengths}
+use Rattle.loader_run.specs.Step.{afterPacket, bufferLengths}
 use Rattle.loader_claims.specs.Calls.{Machine}
 use Rattle.loader_claims.specs.CallHistory.{coreAt}
 use Rattle.loader_claims.specs.RunCalls.{ran}

@@ -9,8 +9,9 @@ use lib.ListN.{length, take}
 use Rattle.lists.specs.Checks.{first}
 use Rattle.slip_packets.specs.Packets.{packets}
 use Rattle.loader_state.specs.Refusals.{bufferChecks}
-use Rattle.loader.specs.Step.{refused, bufferLengths}
-use Rattle.loader.specs.RunStep.{RunStep, runStep}
+use Rattle.loader_act.specs.Told.{refused}
+use Rattle.loader_run.specs.Step.{bufferLengths}
+use Rattle.loader_run.specs.RunStep.{RunStep, runStep}
 use Rattle.loader_claims.specs.Calls.{Machine, ClosingCall, closingCall, Sent}
 
 -- a call: a run of bytes and an answer buffer

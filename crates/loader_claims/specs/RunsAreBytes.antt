@@ -2,7 +2,7 @@
 use mathlib.Core.Path.{_≡_}
 use mathlib.Core.List.{List, [], _∷_, _++_}
 use Prim.Native.Nat.{ℕ}
-use Rattle.loader.specs.Step.{Step}
+use Rattle.loader_run.specs.Step.{Step}
 use Rattle.loader_claims.specs.Calls.{Machine}
 use Rattle.loader_claims.specs.RunCalls.{RunCall, nextRun, takenBytes}
 use Rattle.loader_claims.specs.Feeding.{State, Feeding, byBytes, oneRun}

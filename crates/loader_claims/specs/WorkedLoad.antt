@@ -1,4 +1,4 @@
--- The worked load of the crate history, fed to a fresh loader: demand 3 is not a claim about nothing.
+-- The worked load of the crate grammar, fed to a fresh loader: demand 3 is not a claim about nothing.
 use mathlib.Core.Path.{_≡_}
 use mathlib.Core.List.{List, [], _∷_, _++_}
 use mathlib.Core.Bool.{true}
@@ -8,7 +8,7 @@ use Rattle.slip_framing.specs.Frame.{longest}
 use Rattle.esp_begin.specs.Begin.{sector}
 use Rattle.loader_answers.specs.Reply.{longestAnswer}
 use Rattle.loader_state.specs.Refusals.{wordCount}
-use Rattle.loader_history.specs.Witness.{workedLine}
+use Rattle.grammar.specs.Witness.{workedLine}
 use Rattle.loader_claims.specs.Calls.{Machine, Call, start, stepped, endsWell}
 use Rattle.loader_claims.specs.Arrives.{bytes, after}
 

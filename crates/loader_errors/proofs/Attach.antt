@@ -7,10 +7,11 @@ use Prim.Native.Nat.{ℕ, _<_}
 use native.Mathlib.Omega.{arith}
 use lib.Dec.{ltb}
 use Rattle.lists.specs.Checks.{first}
-use Rattle.pins.specs.declared.Pins.{Pins}
-use Rattle.pins.specs.Pins.{twoEqual, attachRule, attachApart, attachGood}
+use Rattle.esp_attach.specs.declared.Pins.{Pins}
+use Rattle.esp_attach.specs.Pins.{twoEqual, attachRule, attachApart, attachGood}
 use Rattle.pins.specs.Packer as packer
-use Rattle.pins.proofs.Theorems.{packed-is-taken, no-pins-taken, word-ruled, word-apart}
+use Rattle.pins.proofs.Theorems.{packed-is-taken, word-ruled, word-apart}
+use Rattle.esp_attach.proofs.Taken.{no-pins-taken}
 use Rattle.esp_begin.specs.declared.Lengths.{Lengths}
 use Rattle.loader_sessions.specs.declared.Session.{Session}
 use Rattle.loader_errors.specs.Errors.{kind, attachChecks, checks, errorOf}

@@ -6,7 +6,7 @@ use mathlib.Core.Bool.{true}
 use Prim.Native.Nat.{ℕ, _≤_, _<_}
 use Rattle.fields.specs.Places.{FIRST-WORD}
 use Rattle.fields.specs.Words.{word}
-use Rattle.pins.specs.declared.Pins.{Pins}
+use Rattle.esp_attach.specs.declared.Pins.{Pins}
 use Rattle.pins.specs.Packer as packer
 use Rattle.esp_commands.specs.Numbers.{SPI-ATTACH}
 use Rattle.esp_commands.specs.Header.{command, shaped}

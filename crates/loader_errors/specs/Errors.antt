@@ -6,7 +6,7 @@ use lib.Dec.{ltb, eqb}
 use Rattle.lists.specs.Checks.{Check, _orElse_, first}
 use Rattle.fields.specs.Places.{FIRST-WORD, SECOND-WORD}
 use Rattle.fields.specs.Words.{word}
-use Rattle.pins.specs.Pins.{attachRule, attachApart}
+use Rattle.esp_attach.specs.Pins.{attachRule, attachApart}
 use Rattle.esp_commands.specs.Numbers.{FLASH-BEGIN, FLASH-DATA, FLASH-END, MEM-BEGIN, MEM-END, MEM-DATA, SYNC, WRITE-REG, READ-REG, SPI-ATTACH, SPI-FLASH-MD5}
 use Rattle.esp_commands.specs.Header.{FOUR-WORDS, command, shaped, dataShaped}
 use Rattle.esp_begin.specs.Begin.{beginOf, flashRule, memoryRule}

@@ -58,8 +58,8 @@ fn plain_error(shaped: bool, ruled: bool) -> u8
 fn attach_error(shaped: bool, word: u32) -> u8
     ensures { λ r. ⌜ r ≡ first (attachChecks shaped word) ⌝ }
 {
-    let ruled = pins::attach_ruled(word);
-    let apart = pins::attach_apart(word);
+    let ruled = esp_attach::attach_ruled(word);
+    let apart = esp_attach::attach_apart(word);
     check(
         shaped,
         WRONG_SIZE,

@@ -21,12 +21,12 @@ use Rattle.loader_sessions.specs.Session.{flashOpen, sessionGood}
 use Rattle.loader_sessions.specs.declared.Session.the-variants.{Flash}
 use Rattle.loader_effects.specs.Core.{Core, lengths}
 use Rattle.loader_effects.specs.Handle.{handle}
-use Rattle.loader_history.specs.Grammar.{flashBegin, goodBlock, begins, carries, packet, Choice, Chain, block, end, Fits}
-use Rattle.loader_history.specs.Loaded.{image, Loaded}
+use Rattle.grammar.specs.Grammar.{flashBegin, goodBlock, begins, carries, packet, Choice, Chain, block, end, Fits}
+use Rattle.grammar.specs.Loaded.{image, Loaded}
 use Rattle.loader_history.specs.History.{history, handledAt, endSucceeds}
 use Rattle.loader_history.specs.Theorems.{Keeps, FollowsGrammar}
-use Rattle.loader_history.proofs.Goodness.{flash-begin-parts, block-parts}
-use Rattle.loader_history.proofs.Reader.{State, idle, loading, complete, next, stateAt, next-end, fits-read, read-fits, fits-unique, View, opens, shuts, rests, takes, waits, stays, closes, view}
+use Rattle.grammar.proofs.Goodness.{flash-begin-parts, block-parts}
+use Rattle.grammar.proofs.Reader.{State, idle, loading, complete, next, stateAt, next-end, fits-read, read-fits, fits-unique, View, opens, shuts, rests, takes, waits, stays, closes, view}
 use Rattle.loader_history.proofs.Sessions.{kept, unopened, began, memory-began, accepts, ends, ended}
 use Rattle.loader_history.proofs.Flash.{loadedUpTo, nothing-loaded, Sizes, block-loaded, loaded}
 use Rattle.loader_history.proofs.Lengths.{keeps}

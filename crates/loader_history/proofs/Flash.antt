@@ -1,24 +1,21 @@
 -- Flash under a load: block after block, it is the flash at the BEGIN with the data so far laid over it, and 0xFF up to the sector's end.
-use mathlib.Core.Path.{_≡_, refl, sym, ap, _∙_}
+use mathlib.Core.Path.{_≡_, ap, _∙_}
 use mathlib.Core.List.{List, [], _++_, append-assoc}
 use Prim.Native.Nat.{ℕ, _+_, _-_, _*_, _≤_, _<_, min}
 use native.Mathlib.Omega.{arith}
 use native.Mathlib.Nat.{suc-mul, mul-le-mul-right, le-of-lt}
-use lib.ListN.{length, take, drop, replicate, length-append, length-take, length-replicate}
-use lib.Seq.{take-at, drop-at, drop-drop, take-append-add, take-all}
+use lib.ListN.{length, take, length-append, length-take, length-replicate}
+use lib.Seq.{take-append-add, take-all}
 use Rattle.lists.specs.Lay.{lay}
 use Rattle.lists.proofs.Laws.{lay-nil}
 use Rattle.lists.proofs.Cuts.{cut-same}
-use Rattle.lists.proofs.Laid.{take-lay, drop-lay, rest-lay, lay-over}
+use Rattle.lists.proofs.Laid.{lay-over}
 use Rattle.esp_begin.specs.Begin.{roundUp, reached}
 use Rattle.esp_begin.specs.declared.Begin.{Begin}
 use Rattle.loader_blocks.specs.Flash.{flashBlock}
 use Rattle.esp_begin.proofs.Sectors.{next-block, round-mono, round-le}
-use Rattle.loader_history.specs.Loaded.{Loaded}
-
--- 0xFF from n up to the next sector
-abbrev erasedFrom : ℕ → List ℕ
-erasedFrom n = replicate (roundUp n - n) 0xFF
+use Rattle.grammar.specs.Loaded.{Loaded}
+use Rattle.grammar.proofs.Loaded.{erasedFrom, laid-loaded}
 
 -- flash f with d laid at `off`, and 0xFF up to the next sector
 unfoldable pub loadedUpTo : ℕ → List ℕ → List ℕ → List ℕ
@@ -99,31 +96,10 @@ module _ (g : Begin) (k : ℕ) (img x f : List ℕ) (z : Sizes g k img f) (lt : 
       rw (m, n, cut-same (g .size - k * g .block) x, w, image-more)
       (loaded-more (g .offset) (k * g .block) f (take (g .size) img) part l (in-within _ _ _ _ r (z .within)))
 
--- what stands when n bytes d are laid, and 0xFF up to the next sector
-module _ (off n : ℕ) (f d : List ℕ) (e : length d ≡ n) (h : off + roundUp n ≤ length f) where
-  tail : drop off (lay f off (d ++ erasedFrom n)) ≡ d ++ (erasedFrom n ++ drop (off + length (d ++ erasedFrom n)) f)
-  tail = drop-lay f off (d ++ erasedFrom n) (omega arith) ∙ append-assoc d (erasedFrom n) _
-
-  data-read : take n (drop off (lay f off (d ++ erasedFrom n))) ≡ d
-  data-read = rw tail (take-at d _ n e)
-
-  erased-read : take (roundUp n - n) (drop (off + n) (lay f off (d ++ erasedFrom n))) ≡ erasedFrom n
-  erased-read =
-      rw (← drop-drop n off, tail, drop-at d (erasedFrom n ++ drop (off + length (d ++ erasedFrom n)) f) n e)
-      (take-at (erasedFrom n) _ (roundUp n - n) (length-replicate _ _))
-
-  above-read : drop (off + roundUp n) (lay f off (d ++ erasedFrom n)) ≡ drop (off + roundUp n) f
-  above-read = rest-lay f off (d ++ erasedFrom n) (roundUp n) (omega arith) (simp (length-append, length-replicate) (omega (arith, round-le n)))
-
 -- when every block is taken
 pub loaded : (g : Begin) (img f : List ℕ) → Sizes g (g .count) img f
     → Loaded g img f (loadedUpTo (g .offset) f (take (g .size) img))
 unfolding loadedUpTo
 loaded g img f z =
     let e : length (take (g .size) img) ≡ g .size = simp length-take (omega (arith, z .enough, z .image)) in
-    rw e (record {
-      announced = data-read (g .offset) (g .size) f (take (g .size) img) e (z .within);
-      erased = erased-read (g .offset) (g .size) f (take (g .size) img) e (z .within);
-      below = take-lay f (g .offset) _ (omega (arith, z .within));
-      above = above-read (g .offset) (g .size) f (take (g .size) img) e (z .within);
-    })
+    rw e (laid-loaded g img f (omega (arith, z .enough, z .image)) (z .within))

@@ -8,7 +8,7 @@ use borrow.Author.Tests.{le-leb}
 use lib.ListN.{length, length-append, length-take, length-replicate, length-set}
 use Rattle.lists.proofs.Laws.{length-lay}
 use Rattle.lists.proofs.Tests.{both, Passed}
-use Rattle.pins.specs.Pins.{attachGood}
+use Rattle.esp_attach.specs.Pins.{attachGood}
 use Rattle.slip_packets.specs.Packets.{Packet, dropped, read}
 use Rattle.esp_begin.specs.Begin.{beginOf, flashRule, memoryRule, reached}
 use Rattle.esp_begin.specs.declared.Begin.{Begin}

@@ -21,9 +21,9 @@ use Rattle.loader_effects.specs.Core.{Core, lengths}
 use Rattle.loader_effects.specs.Effects.{effect}
 use Rattle.loader_effects.specs.Handle.{carriedOut, failed, handle}
 use Rattle.loader_effects.proofs.Handled.{Passes, good-handled, handle-cases}
-use Rattle.loader_history.specs.Grammar.{flashBegin, memoryBegin, anyBegin, goodBlock, flashEnd, begins, carries}
+use Rattle.grammar.specs.Grammar.{flashBegin, memoryBegin, anyBegin, goodBlock, flashEnd, begins, carries}
 use Rattle.loader_history.specs.History.{endSucceeds}
-use Rattle.loader_history.proofs.Goodness.{flash-begin-parts, flash-begin-whole, memory-begin-parts, memory-begin-whole, end-parts, end-whole, block-parts, block-whole}
+use Rattle.grammar.proofs.Goodness.{flash-begin-parts, flash-begin-whole, memory-begin-parts, memory-begin-whole, end-parts, end-whole, block-parts, block-whole}
 
 -- a reply that counts as the success of FLASH_END
 success : (c e : ℕ) → (eqb c FLASH-END && eqb e 0) ≡ true → (c ≡ FLASH-END) × (e ≡ 0)

@@ -5,17 +5,14 @@ use mathlib.Core.Bool.{true, false}
 use mathlib.Core.Logic.{_↔_}
 use Prim.Native.Nat.{ℕ, suc, _<_}
 use lib.ListN.{length, take}
-use Rattle.pins.specs.Pins.{attachGood}
-use Rattle.slip_packets.specs.Packets.{Packet, read}
-use Rattle.esp_commands.specs.Numbers.{SPI-FLASH-MD5}
-use Rattle.esp_commands.specs.Header.{command}
-use Rattle.esp_begin.specs.declared.Begin.{Begin}
+use Rattle.esp_attach.specs.Pins.{attachGood}
+use Rattle.slip_packets.specs.Packets.{Packet}
 use Rattle.esp_begin.specs.declared.Lengths.{Lengths}
 use Rattle.loader_sessions.specs.Session.{flashOpen, sessionGood}
 use Rattle.loader_effects.specs.Core.{Core, lengths}
 use Rattle.loader_effects.specs.Handle.{Handled}
-use Rattle.loader_history.specs.Grammar.{Choice, Fits, packet, begins, fillerBlock, fillerEnd}
-use Rattle.loader_history.specs.Loaded.{image, Loaded}
+use Rattle.grammar.specs.Grammar.{Choice, Fits, packet, begins}
+use Rattle.grammar.specs.Loaded.{image, Loaded}
 use Rattle.loader_history.specs.History.{history, handledAt, endSucceeds}
 
 -- from the core c to the core d: the lengths of flash and words are the same, refusal 5 lets the session of d pass, and its attach word where it lets that of c
@@ -49,9 +46,3 @@ abbrev pub PacketsLoad : Type 0
 PacketsLoad =
     (c : Core) → flashOpen (c .session) ≡ false → sessionGood (lengths c) (c .session) ≡ true
     → (ps : List Packet) → FollowsGrammar (lengths c) ps (history c ps)
-
--- "Demand 3 holds, the command being filler" (request Four): SPI_FLASH_MD5 is filler before every block of every BEGIN, and before END.
-abbrev pub DigestIsFiller : Type 0
-DigestIsFiller =
-    (l : Lengths) (p : List ℕ) → command p ≡ SPI-FLASH-MD5
-    → ((g : Begin) (k : ℕ) → fillerBlock l g k (read p) ≡ true) × (fillerEnd l (read p) ≡ true)

@@ -7,7 +7,7 @@ use borrow.Author.Tests.{leb-true, le-leb}
 use lib.Dec.{leb}
 use Rattle.lists.specs.Checks.{_orElse_}
 use Rattle.lists.proofs.Tests.{both, Passed, first-passed, passed-first}
-use Rattle.pins.specs.Pins.{attachGood}
+use Rattle.esp_attach.specs.Pins.{attachGood}
 use Rattle.slip_framing.specs.Frame.{longest}
 use Rattle.loader_sessions.specs.Session.{sessionGood}
 use Rattle.loader_answers.specs.Reply.{longestAnswer}

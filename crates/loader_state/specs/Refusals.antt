@@ -4,9 +4,9 @@ use mathlib.Core.Bool.{Bool, _&&_}
 use Prim.Native.Nat.{ℕ, _%_}
 use lib.Dec.{leb, eqb}
 use Rattle.lists.specs.Checks.{Check, _orElse_, first}
-use Rattle.pins.specs.Pins.{attachGood}
+use Rattle.esp_attach.specs.Pins.{attachGood}
 use Rattle.slip_framing.specs.Frame.{longest}
-use Rattle.esp_begin.specs.Begin.{sector}
+use Rattle.esp_begin.specs.Flash.{flashLength}
 use Rattle.esp_begin.specs.declared.Lengths.{Lengths}
 use Rattle.loader_sessions.specs.Session.{sessionGood}
 use Rattle.loader_answers.specs.Reply.{longestAnswer}
@@ -22,10 +22,6 @@ pub record BufferLengths : Type 0 where
 -- those that the BEGIN rules speak of
 abbrev pub lengthsOf : BufferLengths → Lengths
 lengthsOf r = record { flash = r .flash; words = r .words }
-
--- "flash length 0, not a multiple of 4,096, or over 4,194,304"
-unfoldable pub flashLength : ℕ → Bool
-flashLength n = leb 1 n && (eqb (n % sector) 0 && leb n 4194304)
 
 -- "0 words, or more than 16,384"
 unfoldable pub wordCount : ℕ → Bool

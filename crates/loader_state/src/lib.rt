@@ -1,6 +1,6 @@
 // The loader's record, and refusals 1 to 5.
 use esp_begin::Lengths;
-use esp_begin::SECTOR;
+use esp_begin::flash_length_good;
 use lists::check;
 use loader_answers::LONGEST_ANSWER;
 use loader_sessions::Session;
@@ -9,7 +9,7 @@ use slip_framing::LONGEST;
 use slip_unframing::Line;
 ghost use mathlib.Core.Path.{_≡_};
 ghost use Rattle.loader_state.specs.Record.{freshLoader};
-ghost use Rattle.loader_state.specs.Refusals.{flashLength, wordCount, recordGood, refusal};
+ghost use Rattle.loader_state.specs.Refusals.{wordCount, recordGood, refusal};
 
 // The loader's record. The caller keeps what each call hands back, and hands it to the next call.
 pub struct Loader {
@@ -29,17 +29,6 @@ pub fn new() -> Loader
     }
 }
 
-// The longest flash: 4 MiB.
-pub const LONGEST_FLASH: usize = 4194304;
-
-// Refusal 3, the sending end's too: flash is a multiple of a sector, up to 4 MiB. A sector's length is a power of 2, so a multiple has
-// none of the bits below.
-pub fn flash_length_good(n: usize) -> bool
-    ensures { λ r. ⌜ r ≡ flashLength n ⌝ }
-{
-    (1 <= n) & (((n & (SECTOR as usize - 1)) == 0) & (n <= LONGEST_FLASH))
-}
-
 // Refusal 4: 1 to 16,384 words.
 fn word_count_good(n: usize) -> bool
     ensures { λ r. ⌜ r ≡ wordCount n ⌝ }
@@ -53,7 +42,8 @@ fn record_good(lengths: Lengths, loader: Loader) -> bool
 {
     let line = loader.line;
     let session = loader.session;
-    (line.held <= LONGEST) & (session_good(lengths, session) & pins::attach_good(loader.attach))
+    (line.held <= LONGEST)
+        & (session_good(lengths, session) & esp_attach::attach_good(loader.attach))
 }
 
 // The number that a call is refused with, by its record and the lengths of its buffers; 0 where it is not.

@@ -1,10 +1,11 @@
 // The operations on line bytes: frames, a loader that is fed, and the flash that it leaves. What they give stands at the front of a
 // buffer, and they say how many bytes it is.
-use crate::calls::feed_from;
 use crate::names;
 use fields::word_at;
 use listing_report::Written;
 use loader::Answer;
+use loader::Loader;
+use loader::RunFed;
 use slip_framing::Framed;
 use slip_framing::LONGEST;
 use slip_framing::LONGEST_FRAME;
@@ -91,8 +92,22 @@ fn keep(flash: &[u8; FLASH_LENGTH], got: &mut [u8]) {
     lists::copy_at(got, LONGEST_FIELD, flash);
 }
 
+// Hands a loader the bytes from a place on.
+fn feed_from(
+    loader: Loader,
+    bytes: &[u8],
+    at: usize,
+    packet: &mut [u8; LONGEST],
+    answer: &mut [u8],
+    flash: &mut [u8; FLASH_LENGTH],
+    words: &mut [u32; WORDS],
+) -> RunFed {
+    let rest = part(bytes, at, bytes.len());
+    loader::feed_run(loader, rest, packet, answer, flash, words)
+}
+
 // Feeds a fresh loader, over flash and words of zeros, and keeps its flash. All bytes are handed over, and what a call leaves of them
-// again until nothing is left.
+// again until nothing is left. A call that is not refused takes some of what it is handed, so there are no more calls than bytes.
 fn run(bytes: &[u8], got: &mut [u8]) -> Said {
     let mut packet = [0u8; LONGEST];
     let mut flash = [0u8; FLASH_LENGTH];
@@ -106,12 +121,14 @@ fn run(bytes: &[u8], got: &mut [u8]) -> Said {
         last: Answer::Taken,
     };
     let mut at: usize = 0;
-    while at < bytes.len() {
+    let mut calls: usize = 0;
+    while at < bytes.len() && calls < bytes.len() {
         let fed = feed_from(state, bytes, at, &mut packet, got, &mut flash, &mut words);
         let answer = fed.answer;
         state = fed.loader;
         said = joined(said, answer);
-        at = fed.next;
+        at = std::num::wrapping_add_usize(at, fed.taken);
+        calls += 1;
     }
     keep(&flash, got);
     said

@@ -1,13 +1,13 @@
 // Runs the vectors of a table, which is read from standard input, and prints a line for each: where it is from, what it is,
 // what was expected, in hex, and `ok`, or `WRONG` and what came. The table's head says how its lines are written.
-mod calls;
 mod chip;
-mod cuts;
 mod loads;
 mod names;
 mod plain;
 
 use libc::STDIN_FILENO;
+use tables::Line;
+use tables::Row;
 use tables::field;
 use tables::part;
 use tables::past;
@@ -25,7 +25,6 @@ fn outcome(operation: u8, input: &[u8], got: &mut [u8]) -> usize {
             chip::on_loader(operation, input, got)
         }
         names::FLASH => chip::flash_at(input, got),
-        names::CUTS => tables::put_word(cuts::agreeing(input), got),
         names::PACKET => loads::packet(input, got),
         names::LOAD => loads::load(input, got),
         names::ERASED => tables::put_byte(chip::erased(input, got), got),
@@ -33,35 +32,28 @@ fn outcome(operation: u8, input: &[u8], got: &mut [u8]) -> usize {
     }
 }
 
-// A row: what stands before its operation, the bytes in and those expected, as text.
-fn run_row(head: &[u8], operation: u8, input: &[u8], expected: &[u8], got: &mut [u8]) {
+fn run_row(line: &[u8], operation: u8, row: Row, got: &mut [u8]) {
+    let input = field(line, row.input, row.expected);
     let mut buffer = [0u8; chip::LONGEST_FIELD];
     tables::decode(input, &mut buffer);
     let n = outcome(operation, part(&buffer, 0, input.len() / 2), got);
-    tables::show(head, expected, part(got, 0, n));
+    tables::show(
+        part(line, 0, row.operation),
+        field(line, row.expected, line.len()),
+        part(got, 0, n),
+    );
 }
 
-// A line of the table, with its line feed: a comment, a row, or a line that is not as the table's head says.
+// A line of the table, with its line feed.
 fn run_line(line: &[u8], got: &mut [u8]) {
-    if (line.len() == 1) | (past(line, 0, b'#') == 1) {
-        return;
+    let names = names::NAMES;
+    match tables::line_of(line, &names, chip::LONGEST_FIELD) {
+        Line::Comment => {}
+        Line::Row(operation, row) => run_row(line, operation, row, got),
+        Line::Bad => {
+            tables::show(b"BAD LINE\t", field(line, 0, line.len()), b"");
+        }
     }
-    let row = tables::row_of(line);
-    let operation = names::number_of(part(line, row.operation, row.input));
-    let input = field(line, row.input, row.expected);
-    let known = (operation < names::UNKNOWN) & (row.expected < line.len());
-    if known & (tables::is_hex(input) & (input.len() <= 2 * chip::LONGEST_FIELD)) {
-        let expected = field(line, row.expected, line.len());
-        run_row(
-            part(line, 0, row.operation),
-            operation,
-            input,
-            expected,
-            got,
-        );
-        return;
-    }
-    tables::show(b"BAD LINE\t", field(line, 0, line.len()), b"");
 }
 
 fn run_table(text: &[u8]) {
@@ -74,8 +66,12 @@ fn run_table(text: &[u8]) {
     }
 }
 
+fn buffer() -> [u8; TABLE] {
+    [0u8; TABLE]
+}
+
 fn main() {
-    let mut text = [0u8; TABLE];
+    let mut text = buffer();
     let n = io::read_full(STDIN_FILENO, &mut text);
     if n == text.len() {
         tables::show(b"", b"TABLE TOO LONG", b"");

@@ -1,13 +1,10 @@
 // The operations, by their names in the table.
-use tables::TAB;
-use tables::part;
-use tables::past;
 
 // Each name has the number of its place here.
-const NAMES: [u8; 124] = *b"\
+pub const NAMES: [u8; 119] = *b"\
     checksum\tcommand\trecord\tsize\tvalue\taddress\tmerge\tpack\t\
     frame\tunframe\tanswer\tcloses\terrors\tline\t\
-    flash\terased\tcuts\tpacket\tload\t";
+    flash\terased\tpacket\tload\t";
 
 pub const CHECKSUM: u8 = 0;
 
@@ -41,27 +38,6 @@ pub const FLASH: u8 = 14;
 
 pub const ERASED: u8 = 15;
 
-pub const CUTS: u8 = 16;
+pub const PACKET: u8 = 16;
 
-pub const PACKET: u8 = 17;
-
-pub const LOAD: u8 = 18;
-
-// No operation has it.
-pub const UNKNOWN: u8 = 255;
-
-// The number of a name, which a tab ends.
-pub fn number_of(name: &[u8]) -> u8 {
-    let names = NAMES;
-    let mut number: u8 = 0;
-    let mut at: usize = 0;
-    while at < 124 {
-        let next = past(&names, at, TAB);
-        if lists::same(name, part(&names, at, next)) {
-            return number;
-        }
-        number = std::num::wrapping_add_u8(number, 1);
-        at = next;
-    }
-    UNKNOWN
-}
+pub const LOAD: u8 = 17;

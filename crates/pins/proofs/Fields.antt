@@ -8,8 +8,8 @@ use lib.Dec.{ltb, eqb, lit≤}
 use lib.Pow.{pow-add, shl-lt, shl-exact}
 use lib.Bits.{bitOr, or-shifted}
 use borrow.Author.Tests.{ltb-true, ltb-false, eqb-true, eqb-false, le-ltb, eq-eqb, ne-eqb}
-use Rattle.pins.specs.declared.Pins.{Pins}
-use Rattle.pins.specs.Pins.{field}
+use Rattle.esp_attach.specs.declared.Pins.{Pins}
+use Rattle.esp_attach.specs.Pins.{field}
 use Rattle.pins.specs.Packer.{packed, pinGood, pinField, fieldPin, pinsGood}
 
 -- `(a << (6 + k)) | (b << k)`

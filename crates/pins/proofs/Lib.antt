@@ -1,4 +1,3 @@
 pub mod Fields
 pub mod Packs
-pub mod Pairs
 pub mod Theorems

@@ -5,8 +5,8 @@ use mathlib.Core.Bool.{Bool, true, false, cond, _&&_}
 use native.Mathlib.Omega.{arith}
 use borrow.Author.Tests.{ltb-true, lt-ltb, le-ltb}
 use lib.Dec.{ltb}
-use Rattle.pins.specs.declared.Pins.{Pins}
-use Rattle.pins.specs.Pins.{twoEqual}
+use Rattle.esp_attach.specs.declared.Pins.{Pins}
+use Rattle.esp_attach.specs.Pins.{twoEqual}
 use Rattle.pins.specs.Packer.{refused, word, pinsGood, pinsWord, packingOf}
 
 module _ (p : Pins) (w : ℕ) (good : pinsGood p ≡ true) (e : w ≡ pinsWord p) where

@@ -1,31 +1,17 @@
 -- The theorems of specs/Theorems on words and pins.
-use Prim.Native.Nat.{ℕ, zero, suc, _^_, _≤_, _<_}
-use mathlib.Core.Path.{_≡_, refl, sym, ap, _∙_}
-use mathlib.Core.Bool.{true, false, not, _||_, or-true, and-eq-true-iff}
+use Prim.Native.Nat.{ℕ, _^_, _<_}
+use mathlib.Core.Path.{_≡_, sym, ap, _∙_}
+use mathlib.Core.Bool.{true, false, not, _||_, or-true}
 use native.Mathlib.Omega.{arith}
-use borrow.Author.Tests.{ltb-true, leb-true, lt-ltb, le-ltb, le-leb, ne-eqb, not-true}
-use lib.Dec.{ltb, leb}
-use Rattle.pins.specs.declared.Pins.{Pins}
-use Rattle.pins.specs.Pins.{field, fieldsOf, noPins, fieldsGood, twoEqual, attachRule, attachApart, attachGood}
+use borrow.Author.Tests.{lt-ltb, le-leb}
+use lib.Dec.{ltb}
+use Rattle.esp_attach.specs.declared.Pins.{Pins}
+use Rattle.esp_attach.specs.Pins.{field, fieldsOf, fieldsGood, twoEqual, attachRule, attachApart, attachGood}
+use Rattle.esp_attach.proofs.Taken.{no-pins-is, Fits, taken-fits}
 use Rattle.pins.specs.Packer.{pinField, pinsGood, pinsWord, pinsOf}
 use Rattle.pins.specs.Theorems.{Says, PackedSays, PackedIsTaken}
 use Rattle.pins.proofs.Fields.{word-back, Each, each-good, Small, fields-small, pin-back, field-back, said-good, same-pins}
 use Rattle.pins.proofs.Packs.{told, packs}
-
--- words 0 and 1 hold no pins, and any other word does
-no-pins-is : (w : ℕ) → noPins w ≡ not (ltb 1 w)
-unfolding noPins
-no-pins-is zero = refl
-no-pins-is (suc zero) = refl
-no-pins-is (suc (suc w)) = rw (lt-ltb 1 (suc (suc w)) (omega arith), ne-eqb (suc (suc w)) 0 (λ e. omega arith), ne-eqb (suc (suc w)) 1 (λ e. omega arith))
-
--- words 0 and 1 are taken
-pub no-pins-taken : (w : ℕ) → w ≤ 1 → attachGood w ≡ true
-unfolding attachGood attachRule attachApart
-no-pins-taken w h = rw (no-pins-is w, le-ltb 1 w h)
-
-pub zero-taken : attachGood 0 ≡ true
-zero-taken = no-pins-taken 0 (omega arith)
 
 -- the fields of pins, each at the name of its pin
 abbrev pinFields : Pins → Pins
@@ -109,39 +95,7 @@ packed-says p w e =
     let t = told p w e in
     rw (← (t .is)) (says p (t .good) (t .apart))
 
--- what SPI_ATTACH asks of a word that holds pins
-record Fits (w : ℕ) : Type 0 where
-  below : w < 2 ^ 30
-  hd : field w 4 ≤ 31
-  q : field w 3 ≤ 31
-  d : field w 2 ≤ 31
-  cs : field w 1 ≤ 31
-  clk : field w 0 ≤ 31
-  apart : twoEqual (fieldsOf w) ≡ false
-
-taken-fits : (w : ℕ) → 1 < w → attachGood w ≡ true → Fits w
-unfolding attachGood attachRule attachApart fieldsGood
-taken-fits w h t =
-    let n : noPins w ≡ false = rw (no-pins-is w, lt-ltb 1 w h) in
-    let a = and-eq-true-iff (noPins w || fieldsGood w) (noPins w || not (twoEqual (fieldsOf w))) .0 t in
-    let r : fieldsGood w ≡ true = rw n at (a .0) in
-    let s : not (twoEqual (fieldsOf w)) ≡ true = rw n at (a .1) in
-    let h₅ = and-eq-true-iff (ltb w (2 ^ 30)) _ .0 r in
-    let h₄ = and-eq-true-iff (leb (field w 4) 31) _ .0 (h₅ .1) in
-    let h₃ = and-eq-true-iff (leb (field w 3) 31) _ .0 (h₄ .1) in
-    let h₂ = and-eq-true-iff (leb (field w 2) 31) _ .0 (h₃ .1) in
-    let h₁ = and-eq-true-iff (leb (field w 1) 31) _ .0 (h₂ .1) in
-    record {
-      below = ltb-true _ _ (h₅ .0);
-      hd = leb-true _ _ (h₄ .0);
-      q = leb-true _ _ (h₃ .0);
-      d = leb-true _ _ (h₂ .0);
-      cs = leb-true _ _ (h₁ .0);
-      clk = leb-true _ _ (h₁ .1);
-      apart = not-true _ s;
-    }
-
--- the pins that such a word says
+-- the pins that a taken word says
 module _ (w : ℕ) (f : Fits w) where
   said : Each (pinsOf w)
   said =

@@ -1,3 +1,2 @@
-pub mod Pins
 pub mod Packer
 pub mod Theorems

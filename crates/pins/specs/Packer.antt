@@ -2,10 +2,10 @@
 use mathlib.Core.Bool.{Bool, cond, _&&_, _||_}
 use Prim.Native.Nat.{ℕ, _+_, _-_, _*_}
 use lib.Dec.{ltb, eqb}
-use Rattle.pins.specs.declared.Pins.{Pins}
+use Rattle.esp_attach.specs.declared.Pins.{Pins}
 use Rattle.pins.specs.declared.Packed.{Packed}
 use Rattle.pins.specs.declared.Packed.the-variants.{Word, Refused}
-use Rattle.pins.specs.Pins.{field, twoEqual}
+use Rattle.esp_attach.specs.Pins.{field, twoEqual}
 
 -- "The packer of pins refuses pins 30, 31 and above 33": a pin that a field can say
 unfoldable pub pinGood : ℕ → Bool

@@ -1,14 +1,14 @@
 // Writes a load into flash to standard output, framed, packet by packet: what a bench sends to the loader. The image is a file; its
 // offset, the block size and the flash length are numbers, decimal or hexadecimal behind 0x. Nothing is written unless the load is accepted.
+use esp_begin::LONGEST_FLASH;
 use libc::STDERR_FILENO;
 use libc::STDOUT_FILENO;
-use loader_state::LONGEST_FLASH;
 use sender::Count;
 use sender::LONGEST_FRAME;
 use sender_numbers::Number;
 use slip_framing::Framed;
 
-// One byte more than the longest flash: of a longer file so much is read, and that fits no flash.
+// One byte more than the longest flash, so that an image that fits leaves space: a file that fills the buffer is refused.
 const IMAGE_SPACE: usize = LONGEST_FLASH + 1;
 
 // Where in flash the image goes, in blocks of what size, and how long the flash is.
@@ -81,12 +81,13 @@ fn send_packets(image: &[u8], place: Place, count: usize, buffer: &mut [u8]) {
     }
 }
 
-fn send_load(image: &[u8], place: Place) {
-    match sender::packet_count(image, place.offset, place.block, place.flash) {
+// Sends an image of which so many bytes were read.
+fn send_load(image: &[u8], read: usize, place: Place) {
+    match sender::file_packet_count(image, read, place.offset, place.block, place.flash) {
         Count::Refused(refusal) => say_refused(refusal),
         Count::Packets(count) => {
             let mut buffer = [0u8; LONGEST_FRAME];
-            send_packets(image, place, count, &mut buffer);
+            send_packets(&image[..read], place, count, &mut buffer);
         }
     }
 }
@@ -106,7 +107,7 @@ fn send_open(fd: i32, name: &[u8], image: &mut [u8], place: Place) {
         }
         filled += n;
     }
-    send_load(&image[..filled], place);
+    send_load(image, filled, place);
 }
 
 // Lends the array on as a slice. In a function of its own, which knows the array's length by its type, no proof counts its bytes.

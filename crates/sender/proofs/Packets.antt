@@ -9,7 +9,8 @@ use lib.ListN.{length, length-take, length-drop}
 use Rattle.esp_begin.specs.Begin.{largestBlock}
 use Rattle.esp_begin.specs.Count.{countOf}
 use Rattle.esp_requests.specs.Requests.{endPacket}
-use Rattle.esp_requests.proofs.Lengths.{Frameable, full-length, sync-frameable, begin-frameable, data-frameable, end-frameable}
+use Rattle.esp_requests.proofs.Lengths.{Frameable, sync-frameable, begin-frameable, end-frameable}
+use Rattle.esp_data.proofs.Lengths.{full-length, data-frameable}
 use Rattle.sender.specs.Load.{announces}
 use Rattle.sender.specs.Packets.{piece, blockData, blockPacket, packetOf}
 

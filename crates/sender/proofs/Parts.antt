@@ -11,7 +11,7 @@ use Rattle.esp_begin.specs.Count.{countOf}
 use Rattle.esp_begin.specs.declared.Begin.{Begin}
 use Rattle.esp_begin.proofs.Count.{count-fills}
 use Rattle.esp_begin.proofs.Sectors.{next-block}
-use Rattle.esp_requests.specs.Requests.{padded, dataPacket}
+use Rattle.esp_data.specs.Data.{padded, dataPacket}
 use Rattle.sender.specs.Load.{announces}
 use Rattle.sender.specs.Packets.{piece, blockData, blockPacket}
 use Rattle.sender.specs.Parts.{HasBlock}

@@ -13,10 +13,11 @@ use Rattle.slip_framing.specs.Frame.{framed, refused, wrote, Framing, framing, 
 use Rattle.slip_framing.specs.declared.Framed.{Framed}
 use Rattle.slip_framing.proofs.Refusals.{framing-short, framing-written}
 use Rattle.esp_begin.specs.Count.{countOf}
+use Rattle.esp_begin.specs.Flash.{flashLength}
 use Rattle.esp_requests.proofs.Lengths.{Frameable}
 use Rattle.sender.specs.Load.{packetCount}
 use Rattle.sender.specs.Packets.{packetOf}
-use Rattle.sender.specs.Sending.{loadChecks, loadRefusal, refusal, sending, no-total, total, counting}
+use Rattle.sender.specs.Sending.{loadChecks, loadRefusal, refusal, sending, no-total, total, counting, countingFile}
 use Rattle.sender.proofs.Sizes.{sized}
 use Rattle.sender.proofs.Packets.{packet-frameable}
 
@@ -111,3 +112,13 @@ module _ (size offset block flash : ℕ) where
   pub count-told : loadRefusal size offset block flash ≡ 0 → total (countOf size block + 3) ≡ counting size offset block flash
   unfolding counting packetCount
   count-told e = rw e refl
+
+-- a file that leaves space in the buffer is counted as its bytes are; one that fills it is refused
+module _ (space read offset block flash : ℕ) where
+  pub file-read : read < space → counting read offset block flash ≡ countingFile space read offset block flash
+  unfolding countingFile
+  file-read h = rw (lt-ltb read space h) refl
+
+  pub file-filled : (t : Bool) → flashLength flash ≡ t → space ≤ read → no-total (cond t 15 3) ≡ countingFile space read offset block flash
+  unfolding countingFile first
+  file-filled t e h = rw (le-ltb read space h, e) refl

@@ -11,7 +11,7 @@ use Rattle.esp_begin.specs.Begin.{sector, largestBlock, roundUp, flashRule}
 use Rattle.esp_begin.specs.Count.{countOf}
 use Rattle.esp_begin.proofs.Rules.{ruled}
 use Rattle.esp_begin.proofs.Sectors.{next-block, round-le}
-use Rattle.loader_state.specs.Refusals.{flashLength}
+use Rattle.esp_begin.specs.Flash.{flashLength}
 use Rattle.sender.specs.Load.{announces, InWords}
 use Rattle.sender.specs.Sending.{loadChecks, loadRefusal}
 

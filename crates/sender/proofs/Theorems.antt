@@ -1,24 +1,24 @@
 -- The statements of specs/Theorems.
 use mathlib.Core.Path.{_≡_, refl, sym, ap, _∙_}
-use mathlib.Core.List.{List, [], map}
+use mathlib.Core.List.{List, [], _∷_, map}
 use mathlib.Core.Bool.{Bool, true, false, cond}
-use Prim.Native.Nat.{ℕ, _+_, _≤_}
+use Prim.Native.Nat.{ℕ, _+_, _≤_, _<_}
 use native.Mathlib.Omega.{arith}
 use borrow.Author.Tests.{eq-eqb, eqb-true, eqb-false, ne-eqb, le-leb, ltb-true, ltb-false, le-ltb}
 use lib.Dec.{eqb, ltb}
 use lib.ListN.{length}
-use Rattle.lists.specs.Checks.{first}
+use Rattle.lists.specs.Checks.{_orElse_, first}
 use Rattle.slip_framing.specs.Frame.{longestFrame, framed}
 use Rattle.slip_framing.proofs.Escapes.{length-framed, escaped-most}
 use Rattle.esp_begin.specs.Begin.{flashRule}
 use Rattle.esp_begin.specs.Count.{countOf}
 use Rattle.esp_begin.proofs.Count.{count-empty}
-use Rattle.loader_state.specs.Refusals.{flashLength}
+use Rattle.esp_begin.specs.Flash.{flashLength}
 use Rattle.sender.specs.Load.{announces, packetCount}
 use Rattle.sender.specs.Packets.{packetOf}
 use Rattle.sender.specs.Line.{consecutive, packetsOf}
-use Rattle.sender.specs.Sending.{loadChecks, loadRefusal, refusal}
-use Rattle.sender.specs.Theorems.{FrameFits, NumbersAreWords, EmptyImage}
+use Rattle.sender.specs.Sending.{loadChecks, loadRefusal, refusal, no-total, total, counting, countingFile}
+use Rattle.sender.specs.Theorems.{FrameFits, NumbersAreWords, FileIsWhole, EmptyImage}
 use Rattle.sender.proofs.Sizes.{sized, in-words}
 use Rattle.sender.proofs.Sending.{refusal-is, past-refusal, short-or-not, frameable}
 
@@ -70,3 +70,13 @@ unfolding packetsOf consecutive packetOf
 empty-image offset block =
     ap (λ n. map (packetOf [] offset block) (consecutive 0 n)) (three-packets block)
     ∙ rw (announces-none offset block, count-empty block) refl
+
+pub file-is-whole : FileIsWhole
+unfolding countingFile
+file-is-whole space read offset block flash n e = go (ltb read space) refl e
+  where
+    go : (t : Bool) → ltb read space ≡ t
+        → cond t (counting read offset block flash) (no-total (first (flashLength flash orElse 3 ∷ false orElse 15 ∷ []))) ≡ total n
+        → (read < space) × (counting read offset block flash ≡ total n)
+    go true q e = (ltb-true read space q, e)
+    go false q e = let z : _≡_ {A = ℕ} 0 1 = cc in absurd (omega arith)

@@ -5,7 +5,8 @@ use Prim.Native.Nat.{ℕ, zero, suc, _*_}
 use lib.Dec.{ltb}
 use lib.ListN.{length, take, drop}
 use Rattle.esp_begin.specs.Count.{countOf}
-use Rattle.esp_requests.specs.Requests.{syncPacket, beginPacket, padded, dataPacket, endPacket}
+use Rattle.esp_requests.specs.Requests.{syncPacket, beginPacket, endPacket}
+use Rattle.esp_data.specs.Data.{padded, dataPacket}
 use Rattle.sender.specs.Load.{announces}
 
 -- the image's bytes in block k: b of them from k*b on, fewer at its end

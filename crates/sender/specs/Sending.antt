@@ -1,6 +1,6 @@
 -- What the sending calls come to, for every input: their answers, and the buffer (document 02's "room") afterwards.
 use mathlib.Core.List.{List, [], _∷_, _++_}
-use mathlib.Core.Bool.{cond}
+use mathlib.Core.Bool.{false, cond}
 use Prim.Native.Nat.{ℕ}
 use lib.Dec.{leb, ltb, eqb}
 use lib.ListN.{length}
@@ -8,7 +8,7 @@ use Rattle.lists.specs.Lay.{lay}
 use Rattle.lists.specs.Checks.{Check, _orElse_, first}
 use Rattle.slip_framing.specs.Frame.{framed, wrote, refused, Framing}
 use Rattle.esp_begin.specs.Begin.{flashRule}
-use Rattle.loader_state.specs.Refusals.{flashLength}
+use Rattle.esp_begin.specs.Flash.{flashLength}
 use Rattle.sender.specs.Load.{announces, packetCount}
 use Rattle.sender.specs.Packets.{packetOf}
 use Rattle.sender.specs.declared.Count.{Count}
@@ -58,3 +58,10 @@ counting size offset block flash =
     cond (eqb (loadRefusal size offset block flash) 0)
     (total (packetCount size block))
     (no-total (loadRefusal size offset block flash))
+
+-- An image that is read from a file into a buffer of so many bytes. Where it fills the buffer, the file may go on behind it, and "the image's whole length" is not known: it is refused as one that does not fit, 15, behind 3.
+unfoldable pub countingFile : (space read offset block flash : ℕ) → CountReport
+countingFile space read offset block flash =
+    cond (ltb read space)
+    (counting read offset block flash)
+    (no-total (first (flashLength flash orElse 3 ∷ false orElse 15 ∷ [])))

@@ -2,9 +2,9 @@
 use esp_begin::Begin;
 use esp_begin::LARGEST_BLOCK;
 use esp_begin::Lengths;
+use esp_begin::flash_length_good;
 use lists::check;
-use loader_state::flash_length_good;
-use slip_framing::Framed;
+pub use slip_framing::Framed;
 pub use slip_framing::LONGEST_FRAME;
 ghost use mathlib.Core.Path.{_≡_};
 ghost use Prim.Native.Nat.{_≤_};
@@ -14,7 +14,7 @@ ghost use Rattle.esp_begin.specs.Begin.{flashRule};
 ghost use Rattle.sender.specs.Load.{announces};
 ghost use Rattle.sender.specs.Packets.{blockPacket};
 ghost use Rattle.sender.specs.Parts.{HasBlock};
-ghost use Rattle.sender.specs.Sending.{loadRefusal, sending, countReport, counting};
+ghost use Rattle.sender.specs.Sending.{loadRefusal, sending, countReport, counting, countingFile};
 
 // How many packets a load has.
 pub enum Count {
@@ -72,7 +72,7 @@ fn send_block(begin: Begin, k: u32, image: &[u8], buffer: &mut [u8]) -> Framed
 {
     let from = esp_begin::reach(begin, k) as usize;
     let upto = esp_begin::reach_after(begin, k) as usize;
-    esp_requests::block(begin.block, k, &image[from..upto], buffer)
+    esp_data::block(begin.block, k, &image[from..upto], buffer)
 }
 
 // The packet with this number, from 0, framed at the front of the buffer: SYNC, FLASH_BEGIN, the blocks, FLASH_END. Refusals, in order: 3
@@ -119,4 +119,25 @@ pub fn packet_count(image: &[u8], offset: usize, block: usize, flash: usize) -> 
         return Count::Refused(refused);
     }
     Count::Packets(esp_begin::count_of(image.len() as u32, block as u32) as usize + 3)
+}
+
+// How many packets the load of a file has, of which `read` bytes are read to the front of a buffer. A file that fills the buffer may go on
+// behind it: it is refused as one that does not fit, with 15, behind 3. One byte more than the longest flash (LONGEST_FLASH) holds every image
+// that fits.
+pub fn file_packet_count(
+    buffer: &[u8],
+    read: usize,
+    offset: usize,
+    block: usize,
+    flash: usize,
+) -> Count
+    ensures { λ r. ⌜ countReport r ≡ countingFile (length (now (buffer .entry))) read offset block flash ⌝ }
+{
+    if read < buffer.len() {
+        return packet_count(&buffer[..read], offset, block, flash);
+    }
+    if flash_length_good(flash) {
+        return Count::Refused(15);
+    }
+    Count::Refused(3)
 }

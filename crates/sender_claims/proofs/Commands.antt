@@ -26,7 +26,8 @@ use Rattle.loader_effects.specs.Core.{Core, lengths, withSession}
 use Rattle.loader_effects.specs.Effects.{effect}
 use Rattle.loader_effects.specs.Handle.{carriedOut, handle}
 use Rattle.loader_effects.proofs.Handled.{Passes, good-handled}
-use Rattle.esp_requests.specs.Requests.{request, syncPacket, beginPacket, dataPacket, endPacket}
+use Rattle.esp_requests.specs.Requests.{request, syncPacket, beginPacket, endPacket}
+use Rattle.esp_data.specs.Data.{dataPacket}
 use Rattle.sender.specs.Load.{InWords}
 use Rattle.sender_claims.proofs.Requests.{IsRead, sync-read, begin-read, block-read, end-read}
 use Rattle.sender_claims.proofs.Succeeding.{succeeded}

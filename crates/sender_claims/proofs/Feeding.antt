@@ -9,10 +9,11 @@ use Rattle.slip_framing.specs.Frame.{framedAll}
 use Rattle.slip_packets.proofs.Unescape.{closedWhole}
 use Rattle.slip_packets.proofs.Cut.{todo}
 use Rattle.loader_answers.specs.Reply.{longestAnswer}
-use Rattle.loader_state.specs.Refusals.{flashLength}
+use Rattle.esp_begin.specs.Flash.{flashLength}
 use Rattle.loader_effects.specs.Core.{Core}
 use Rattle.loader_effects.specs.Handle.{handle}
-use Rattle.loader.specs.Step.{Step, Told, refused, taken, dropped, answered}
+use Rattle.loader_run.specs.Step.{Step}
+use Rattle.loader_act.specs.Told.{Told, refused, taken, dropped, answered}
 use Rattle.loader_claims.specs.Calls.{Machine, Call, start, stepped, next, lineBytes, closingCall, closingCalls, EachCall}
 use Rattle.loader_claims.specs.CallHistory.{coreAt}
 use Rattle.loader_claims.specs.RunCalls.{RunCall, lineTaken, closingRuns}

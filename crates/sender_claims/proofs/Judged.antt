@@ -11,7 +11,7 @@ use Rattle.esp_commands.specs.Header.{command, shaped, sized}
 use Rattle.fields.specs.Words.{half}
 use Rattle.loader_sessions.specs.declared.Session.{Session}
 use Rattle.loader_errors.specs.Errors.{kind, plainChecks, checks, errorOf}
-use Rattle.loader_state.specs.Refusals.{flashLength}
+use Rattle.esp_begin.specs.Flash.{flashLength}
 use Rattle.esp_requests.specs.Requests.{request, beginPacket}
 use Rattle.sender.specs.Load.{announces, InWords}
 use Rattle.sender.specs.Sending.{loadChecks, loadRefusal}

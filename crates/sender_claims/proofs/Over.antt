@@ -6,7 +6,8 @@ use Rattle.slip_unframing.specs.Reasons.{whole}
 use Rattle.slip_packets.specs.Packets.{header}
 use Rattle.loader_effects.specs.Core.{Core}
 use Rattle.loader_effects.specs.Handle.{handle}
-use Rattle.loader.specs.Step.{Told, toldOf}
+use Rattle.loader_act.specs.Told.{Told}
+use Rattle.loader_run.specs.Step.{toldOf}
 use Rattle.esp_requests.proofs.Lengths.{Frameable}
 
 unfoldable pub tellsOver : Core → List (List ℕ) → List Told

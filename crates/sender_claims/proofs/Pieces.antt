@@ -14,7 +14,7 @@ use lib.Seq.{take-at, drop-at, take-all, take-add, take-append-add, getD-drop}
 use Rattle.lists.specs.Bytes.{IsBytes, allAre}
 use Rattle.fields.specs.Checksum.{xored, checksum}
 use Rattle.esp_begin.proofs.Sectors.{next-block}
-use Rattle.esp_requests.specs.Requests.{padded}
+use Rattle.esp_data.specs.Data.{padded}
 use Rattle.sender.specs.Packets.{piece, blockData}
 use Rattle.sender.proofs.Packets.{piece-length, data-length}
 

@@ -12,7 +12,8 @@ use Rattle.slip_packets.specs.Packets.{read, header}
 use Rattle.esp_begin.specs.Count.{countOf}
 use Rattle.esp_begin.specs.declared.Begin.{Begin}
 use Rattle.sender.specs.Load.{announces}
-use Rattle.esp_requests.specs.Requests.{request, syncPacket, beginPacket, dataPacket, endPacket}
+use Rattle.esp_requests.specs.Requests.{request, syncPacket, beginPacket, endPacket}
+use Rattle.esp_data.specs.Data.{dataPacket}
 use Rattle.sender.specs.Packets.{blockPacket, packetOf}
 
 -- it has its header, and direction 0

@@ -9,7 +9,7 @@ use Rattle.loader_answers.specs.Answer.{plain}
 use Rattle.esp_commands.specs.Header.{command}
 use Rattle.loader_effects.specs.Core.{Core}
 use Rattle.loader_effects.specs.Handle.{Handled, replied, handle}
-use Rattle.loader.specs.Step.{toldOf}
+use Rattle.loader_run.specs.Step.{toldOf}
 use Rattle.sender_claims.specs.Succeeds.{asks, success}
 use Rattle.sender_claims.proofs.Over.{tellsOver, coreOver}
 

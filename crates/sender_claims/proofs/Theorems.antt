@@ -11,7 +11,7 @@ use Rattle.slip_framing.proofs.Refusals.{framing-written}
 use Rattle.slip_framing.proofs.Escapes.{length-framed, escaped-most}
 use Rattle.slip_packets.specs.Packets.{read, packets}
 use Rattle.slip_packets.proofs.Theorems.{Leaves, leaves}
-use Rattle.loader_state.specs.Refusals.{flashLength}
+use Rattle.esp_begin.specs.Flash.{flashLength}
 use Rattle.loader_claims.specs.Calls.{start}
 use Rattle.loader_claims.specs.CallHistory.{coreAt}
 use Rattle.sender.specs.Load.{packetCount}

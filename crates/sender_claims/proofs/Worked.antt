@@ -5,9 +5,10 @@ use Rattle.fields.specs.Checksum.{xored, checksum}
 use Rattle.slip_framing.specs.Frame.{escaped, framed}
 use Rattle.esp_begin.specs.Begin.{roundUp, counted, flashRule}
 use Rattle.esp_begin.specs.Count.{dividedUp, countOf}
-use Rattle.loader_state.specs.Refusals.{flashLength}
-use Rattle.esp_requests.specs.Requests.{request, syncPacket, beginPacket, padded, dataPacket, endPacket}
-use Rattle.loader_history.specs.Witness.{workedBegin, workedBlock, workedEnd}
+use Rattle.esp_begin.specs.Flash.{flashLength}
+use Rattle.esp_requests.specs.Requests.{request, syncPacket, beginPacket, endPacket}
+use Rattle.esp_data.specs.Data.{padded, dataPacket}
+use Rattle.grammar.specs.Witness.{workedBegin, workedBlock, workedEnd}
 use Rattle.sender.specs.Load.{announces, packetCount}
 use Rattle.sender.specs.Packets.{piece, blockData, blockPacket, packetOf}
 use Rattle.sender.specs.Line.{consecutive, packetsOf}

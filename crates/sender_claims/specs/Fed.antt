@@ -7,7 +7,7 @@ use lib.ListN.{length}
 use Rattle.slip_framing.specs.Frame.{longest}
 use Rattle.loader_answers.specs.Reply.{longestAnswer}
 use Rattle.loader_state.specs.Refusals.{wordCount}
-use Rattle.loader.specs.Step.{Told}
+use Rattle.loader_act.specs.Told.{Told}
 use Rattle.loader_claims.specs.Calls.{Machine, Call, start, lineBytes, closingCalls}
 use Rattle.loader_claims.specs.RunCalls.{RunCall, lineTaken, closingRuns}
 use Rattle.loader_claims.specs.Feeding.{State}

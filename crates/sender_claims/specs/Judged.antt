@@ -7,7 +7,7 @@ use Rattle.esp_begin.specs.declared.Lengths.{Lengths}
 use Rattle.loader_sessions.specs.declared.Session.{Session}
 use Rattle.loader_errors.specs.Numbers.{badParameter}
 use Rattle.loader_errors.specs.Errors.{errorOf}
-use Rattle.loader_state.specs.Refusals.{flashLength}
+use Rattle.esp_begin.specs.Flash.{flashLength}
 use Rattle.esp_requests.specs.Requests.{beginPacket}
 use Rattle.sender.specs.Load.{announces, InWords}
 use Rattle.sender.specs.Sending.{loadRefusal}

@@ -6,7 +6,7 @@ use lib.ListN.{length, take, drop, replicate}
 use Rattle.lists.specs.Bytes.{IsBytes}
 use Rattle.esp_begin.specs.Begin.{roundUp}
 use Rattle.loader_sessions.specs.declared.Session.the-variants.{Closed}
-use Rattle.loader.specs.Step.{Told}
+use Rattle.loader_act.specs.Told.{Told}
 use Rattle.loader_claims.specs.Calls.{Machine}
 use Rattle.sender.specs.Sending.{loadRefusal}
 use Rattle.sender.specs.Line.{loadLine}

@@ -11,7 +11,7 @@ use Rattle.esp_commands.specs.Numbers.{FLASH-END}
 use Rattle.esp_commands.specs.Header.{command}
 use Rattle.loader_answers.specs.Answer.{answerWith}
 use Rattle.loader_notes.specs.Notes.{Order, no-order, end-word}
-use Rattle.loader.specs.Step.{Told, answered}
+use Rattle.loader_act.specs.Told.{Told, answered}
 use Rattle.loader_claims.specs.Calls.{Machine}
 use Rattle.sender.specs.Sending.{loadRefusal}
 use Rattle.sender.specs.Line.{packetsOf, loadLine}

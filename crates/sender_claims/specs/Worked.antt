@@ -2,7 +2,7 @@
 use mathlib.Core.Path.{_≡_}
 use mathlib.Core.List.{List, [], _∷_}
 use Prim.Native.Nat.{ℕ}
-use Rattle.loader_history.specs.Witness.{workedBegin, workedBlock, workedEnd}
+use Rattle.grammar.specs.Witness.{workedBegin, workedBlock, workedEnd}
 use Rattle.sender.specs.Line.{packetsOf}
 use Rattle.sender.specs.Sending.{loadRefusal, refusal}
 
@@ -56,7 +56,7 @@ threeSecond =
     ∷ 0x22 ∷ 0xFF ∷ []
 
 pub record WorkedSend : Type 0 where
-  -- an image of the one byte C0, at offset 0, in blocks of two: SYNC, and the BEGIN, block and END of the worked load of the crate history
+  -- an image of the one byte C0, at offset 0, in blocks of two: SYNC, and the BEGIN, block and END of the worked load of the crate grammar
   pub one-block : packetsOf (0xC0 ∷ []) 0 2 ≡ workedSync ∷ workedBegin ∷ workedBlock ∷ workedEnd ∷ []
   -- the three bytes, at offset 4096, in blocks of two
   pub two-blocks : packetsOf threeBytes 4096 2 ≡ workedSync ∷ threeBegin ∷ threeFirst ∷ threeSecond ∷ workedEnd ∷ []

@@ -10,7 +10,7 @@ use lib.Seq.{drop-cons, take-at}
 use Rattle.lists.specs.Lay.{lay, layIfFits}
 use Rattle.lists.proofs.Fits.{lay-fits}
 use Rattle.lists.proofs.Laws.{lay-more, lay-lay, length-lay, set-set-lay}
-use Rattle.listing_columns.specs.Columns.{hex2}
+use Rattle.digits.specs.Hex.{hex2}
 use Rattle.tables.specs.Hex.{isDigit, allDigits, pairAt, bytesIn, unhex, digitsIn, hexText, mostShown}
 
 module _ (s : List ℕ) (i : ℕ) (e : allDigits (drop i s) ≡ allDigits s) where

@@ -49,7 +49,7 @@ up-most b (x ∷ xs) = go (up-most b xs) (eqb x b)
     go h true = omega arith
     go h false = omega arith
 
-past-on : (s : List ℕ) (from b : ℕ) → from < length s → from < pastOf s from b
+pub past-on : (s : List ℕ) (from b : ℕ) → from < length s → from < pastOf s from b
 unfolding pastOf
 past-on s from b h = omega (arith, up-some b (drop from s) (rw (length-drop from s) (omega arith)))
 

@@ -4,7 +4,7 @@ use mathlib.Core.List.{List, [], _∷_, _++_}
 use mathlib.Core.Bool.{Bool, true, false, cond, _&&_, _||_}
 use lib.Dec.{leb, eqb}
 use lib.ListN.{length, getD}
-use Rattle.listing_columns.specs.Columns.{hex2}
+use Rattle.digits.specs.Hex.{hex2}
 
 -- 0 to 9, A to F
 unfoldable pub isDigit : ℕ → Bool

@@ -9,6 +9,7 @@ ghost use lib.ListN.{length};
 ghost use Rattle.lists.specs.Lay.{lay, layIfFits};
 ghost use Rattle.lists.specs.Bytes.{sameBytes};
 ghost use Rattle.tables.specs.Fields.{partOf, pastOf, rowOf};
+ghost use Rattle.tables.specs.Rows.{numberOf, lineOf};
 ghost use Rattle.tables.specs.Hex.{isDigit, valueOf, isHex, allDigits, pairAt, bytesIn, unhex, hexText, mostShown};
 
 pub const TAB: u8 = 9;
@@ -19,6 +20,13 @@ pub struct Row {
     pub operation: usize,
     pub input: usize,
     pub expected: usize,
+}
+
+// A line of a table: a comment, which an empty line is too, a row with its operation's number, or what is no row.
+pub enum Line {
+    Comment,
+    Row(u8, Row),
+    Bad,
 }
 
 // The bytes from a place up to another; none where these are not places of `s`, in order.
@@ -72,6 +80,26 @@ pub fn row_of(line: &[u8]) -> Row
     }
 }
 
+// No operation has it.
+const UNKNOWN: u8 = 255;
+
+// The number of a name, by its place among names; a tab ends each of them, and it too.
+fn number_of(name: &[u8], names: &[u8]) -> u8
+    ensures { λ r. ⌜ r ≡ numberOf (now (name .entry)) (now (names .entry)) ⌝ }
+{
+    let mut number: u8 = 0;
+    let mut at: usize = 0;
+    while at < names.len() {
+        let next = past(names, at, TAB);
+        if lists::same(name, part(names, at, next)) {
+            return number;
+        }
+        number = std::num::wrapping_add_u8(number, 1);
+        at = next;
+    }
+    UNKNOWN
+}
+
 fn is_digit(c: u8) -> bool
     ensures { λ r. ⌜ r ≡ isDigit c ⌝ }
 {
@@ -112,6 +140,23 @@ pub fn is_hex(text: &[u8]) -> bool
     (text.len() % 2 == 0) & all_digits(text)
 }
 
+// What a line is, with its line feed. The operation of a row is one of these names, a tab behind each, and its bytes in are at most so many.
+pub fn line_of(line: &[u8], names: &[u8], most: usize) -> Line
+    ensures { λ r. ⌜ r ≡ lineOf (now (line .entry)) (now (names .entry)) most ⌝ }
+{
+    if (line.len() == 1) | (past(line, 0, b'#') == 1) {
+        return Line::Comment;
+    }
+    let row = row_of(line);
+    let number = number_of(part(line, row.operation, row.input), names);
+    let input = field(line, row.input, row.expected);
+    let known = (number < UNKNOWN) & (row.expected < line.len());
+    if known & (is_hex(input) & (input.len() / 2 <= most)) {
+        return Line::Row(number, row);
+    }
+    Line::Bad
+}
+
 // The byte that a pair of digits says.
 fn pair(text: &[u8], at: usize) -> u8
     requires { ⌜ at + 1 < length (now text) ⌝ }
@@ -149,7 +194,7 @@ fn encode_fitting(bytes: &[u8], dst: &mut [u8])
 {
     let mut i: usize = 0;
     while i < bytes.len() {
-        let digits = listing_columns::hex(bytes[i]);
+        let digits = digits::hex(bytes[i]);
         dst[2 * i] = digits[0];
         dst[2 * i + 1] = digits[1];
         i += 1;

@@ -5,15 +5,17 @@ ghost use Rattle.slip_packets.specs.Theorems.{RoundTrip, FrameComesBack, CutOfF
 ghost use Rattle.slip_packets.specs.Theorems.{FirstDecides, DroppedAsBefore};
 ghost use Rattle.slip_runs.specs.Theorems.{TakesMost, TakesSome, GoesOn, StaysClosed, RunComesBack};
 ghost use Rattle.fields.specs.Theorems.{WordBack};
-ghost use Rattle.pins.specs.Theorems.{PackedSays, EveryPair, PackedIsTaken};
+ghost use Rattle.pins.specs.Theorems.{PackedSays, PackedIsTaken};
+ghost use Rattle.esp_attach.specs.Theorems.{EveryPair};
 ghost use Rattle.esp_parameters.specs.Theorems.{RegisterHasPlace};
 ghost use Rattle.loader_errors.specs.Attach.{PackerAgrees};
 ghost use Rattle.esp_begin.specs.Count.{CountIsDividedUp, NoneOfBlock0};
 ghost use Rattle.digest.specs.Suite.{Rfc1321Suite};
 ghost use Rattle.digest.specs.Theorems.{PaddedAsSaid, SixteenBytes};
 ghost use Rattle.loader_claims.specs.Digest.{DigestAnswered, RunDigestAnswered, LoadIsDigested};
-ghost use Rattle.loader_history.specs.Theorems.{PacketsKeep, PacketsLoad, DigestIsFiller};
-ghost use Rattle.loader_history.specs.Witness.{WorkedFits};
+ghost use Rattle.loader_history.specs.Theorems.{PacketsKeep, PacketsLoad};
+ghost use Rattle.grammar.specs.Theorems.{OneChoice, NothingBetween, GoodPackets, DataEndToEnd, LoadedIsLaid, DigestIsFiller};
+ghost use Rattle.grammar.specs.Witness.{WorkedFits};
 ghost use Rattle.loader_claims.specs.CallHistory.{CallsAreHistory};
 ghost use Rattle.loader_claims.specs.RunHistory.{RunsAreHistory};
 ghost use Rattle.loader_claims.specs.Demand3.{Demand3};
@@ -24,7 +26,7 @@ ghost use Rattle.loader_claims.specs.HoweverCut.{HoweverCut};
 ghost use Rattle.loader_claims.specs.Arrives.{PacketArrives, FrameArrives};
 ghost use Rattle.loader_claims.specs.RunArrives.{RunArrives};
 ghost use Rattle.loader_claims.specs.WorkedLoad.{WorkedLoad};
-ghost use Rattle.sender.specs.Theorems.{FrameFits, NumbersAreWords, EmptyImage};
+ghost use Rattle.sender.specs.Theorems.{FrameFits, NumbersAreWords, FileIsWhole, EmptyImage};
 ghost use Rattle.sender_claims.specs.Reads.{SenderWrites, SenderIsRead};
 ghost use Rattle.sender_claims.specs.Judged.{JudgedAsLoader};
 ghost use Rattle.sender_claims.specs.Succeeds.{EveryPacketSucceeds};
@@ -287,6 +289,31 @@ pub fn demand_3()
     ensures { λ r. ⌜ Demand3 ⌝ }
 {}
 
+// The grammar by itself: no two choices of the same packets fit.
+pub fn one_choice()
+    ensures { λ r. ⌜ OneChoice ⌝ }
+{}
+
+// Behind the BEGIN of a choice that fits no good BEGIN of either kind comes, and its END is the first behind the last block.
+pub fn nothing_between()
+    ensures { λ r. ⌜ NothingBetween ⌝ }
+{}
+
+// What the grammar asks of a good BEGIN, block or END, by the places and numbers of document 01; a dropped packet is none of these.
+pub fn good_packets()
+    ensures { λ r. ⌜ GoodPackets ⌝ }
+{}
+
+// The data of a load are what its blocks carry, end to end in the order of their places.
+pub fn data_end_to_end()
+    ensures { λ r. ⌜ DataEndToEnd ⌝ }
+{}
+
+// Flash after a load is flash before it with the announced bytes laid at the offset, and 0xFF behind them up to a whole sector.
+pub fn loaded_is_laid()
+    ensures { λ r. ⌜ LoadedIsLaid ⌝ }
+{}
+
 // The grammar is not empty: a BEGIN, one block and an END, in bytes, fit it.
 pub fn worked_fits()
     ensures { λ r. ⌜ WorkedFits ⌝ }
@@ -332,6 +359,11 @@ pub fn every_packet_succeeds()
 // the attach word are as before the first byte, and no session is open.
 pub fn image_stands()
     ensures { λ r. ⌜ ImageStands ⌝ }
+{}
+
+// A file whose packets are counted left a byte of its buffer free, and they are counted by all that was read.
+pub fn file_is_whole()
+    ensures { λ r. ⌜ FileIsWhole ⌝ }
 {}
 
 // An empty image gives SYNC, a BEGIN with S = 0 and n = 0, and END.

@@ -4,8 +4,8 @@ use borrow.Author.Needs.{needs}
 use Rattle.esp_commands.proofs.data_shape_good.Statement.{statement}
 use Rattle.esp_commands.proofs.data_shape_good.Tie as tie
 
-past-requires : tie.Need-past-requires
-past-requires c κs = search needs
+saturating-sub-requires : tie.Need-saturating-sub-requires
+saturating-sub-requires c κs = search needs
 
 word-at-requires : tie.Need-word-at-requires
 word-at-requires c κs = search needs
@@ -16,14 +16,14 @@ cast-size c = search needs
 size-told-requires : tie.Need-size-told-requires
 size-told-requires c κs = search needs
 
-past-requires-2 : tie.Need-past-requires-2
-past-requires-2 c κs = search needs
+saturating-sub-requires-2 : tie.Need-saturating-sub-requires-2
+saturating-sub-requires-2 c κs = search needs
 
 returns : tie.Need-returns
 unfolding dataShaped
-returns c = rw (c .past2 .ensures, c .before .size-told .ensures, c .before .before .word-at .ensures, c .before .before .before .past .ensures) refl
+returns c = rw (c .saturating-sub2 .ensures, c .before .size-told .ensures, c .before .before .word-at .ensures, c .before .before .before .saturating-sub .ensures) refl
 
 pub data-shape-good-spec : {M : Type 1} → statement M
 data-shape-good-spec =
     tie.close
-    (tie.spec past-requires word-at-requires cast-size size-told-requires past-requires-2 returns)
+    (tie.spec saturating-sub-requires word-at-requires cast-size size-told-requires saturating-sub-requires-2 returns)

@@ -10,12 +10,12 @@ half-at-requires c κs = search needs
 cast-result : tie.Need-cast-result
 cast-result c = search needs
 
-past-requires : tie.Need-past-requires
-past-requires c κs = search needs
+saturating-sub-requires : tie.Need-saturating-sub-requires
+saturating-sub-requires c κs = search needs
 
 returns : tie.Need-returns
 unfolding sized
-returns c = rw (c .past .ensures, c .before .half-at .ensures) refl
+returns c = rw (c .saturating-sub .ensures, c .before .half-at .ensures) refl
 
 pub size-told-spec : {M : Type 1} → statement M
-size-told-spec = tie.close (tie.spec half-at-requires cast-result past-requires returns)
+size-told-spec = tie.close (tie.spec half-at-requires cast-result saturating-sub-requires returns)

@@ -5,7 +5,7 @@ use native.Mathlib.Omega.{arith}
 use borrow.Author.Needs.{needs}
 use lib.ListN.{length, length-take, length-drop}
 use lib.Seq.{length-take-le}
-use Rattle.listing_report.proofs.Rows.{full-where, fed-within}
+use Rattle.listing_report.proofs.Reports.{full-where, fed-within}
 use Rattle.listing_report.proofs.Progress.{fed-most, fed-some}
 use Rattle.listing.proofs.list_run.Statement.{statement}
 use Rattle.listing.proofs.list_run.Tie as tie

@@ -3,7 +3,7 @@ use mathlib.Core.Path.{_≡_, refl}
 use mathlib.Core.Bool.{Bool, cond}
 use Rattle.loader_errors.specs.Errors.{attachChecks}
 use Rattle.lists.specs.Checks.{first}
-use Rattle.pins.specs.Pins.{attachRule, attachApart}
+use Rattle.esp_attach.specs.Pins.{attachRule, attachApart}
 use borrow.Author.Needs.{needs}
 use Rattle.loader_errors.proofs.attach_error.Statement.{statement}
 use Rattle.loader_errors.proofs.attach_error.Tie as tie

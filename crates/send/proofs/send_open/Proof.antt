@@ -1,11 +1,10 @@
 -- Loop: what is filled lies within the image, which keeps its length. The measure is the space that is left.
 use Prim.Native.Nat.{_-_, _≤_}
-use mathlib.Core.Path.{_≡_, ap, sym}
+use mathlib.Core.Path.{_≡_, ap}
 use mathlib.Core.Logic.{⊎-elim}
 use native.Mathlib.Omega.{arith}
 use borrow.Author.Needs.{needs}
 use lib.ListN.{length}
-use lib.Seq.{length-take-le}
 use Rattle.send.proofs.send_open.Statement.{statement}
 use Rattle.send.proofs.send_open.Tie as tie
 
@@ -70,12 +69,6 @@ loop-less c = search needs
 loop-again : tie.Need-loop-again Inv-loop μ-loop
 loop-again c = search needs
 
-slice-reshare-prefix-send-load : tie.Need-slice-reshare-prefix-send-load Inv-loop μ-loop
-slice-reshare-prefix-send-load c = left c .0
-
-slice-aggregate-send-load : tie.Need-slice-aggregate-send-load Inv-loop μ-loop
-slice-aggregate-send-load c = sym (length-take-le _ _ (left (c .before) .0))
-
 send-load-requires : tie.Need-send-load-requires Inv-loop μ-loop
 send-load-requires c κs = search needs
 
@@ -106,8 +99,6 @@ send-open-spec =
     add-filled
     loop-less
     loop-again
-    slice-reshare-prefix-send-load
-    slice-aggregate-send-load
     send-load-requires
     same-length-2
     returns-2)

@@ -1,4 +1,4 @@
-use Rattle.loader_history.proofs.Theorems.{digest-is-filler}
+use Rattle.grammar.proofs.Theorems.{digest-is-filler}
 use Rattle.theorems.proofs.digest_is_filler.Statement.{statement}
 use Rattle.theorems.proofs.digest_is_filler.Tie as tie
 

@@ -1,4 +1,4 @@
-use Rattle.pins.proofs.Pairs.{every-pair}
+use Rattle.esp_attach.proofs.Pairs.{every-pair}
 use Rattle.theorems.proofs.every_pair.Statement.{statement}
 use Rattle.theorems.proofs.every_pair.Tie as tie
 

@@ -1,4 +1,4 @@
-use Rattle.loader_history.proofs.Witness.{worked-fits}
+use Rattle.grammar.proofs.Witness.{worked-fits}
 use Rattle.theorems.proofs.worked_fits.Statement.{statement}
 use Rattle.theorems.proofs.worked_fits.Tie as tie
 

@@ -1,0 +1,4 @@
+pub mod Grammar
+pub mod Loaded
+pub mod Theorems
+pub mod Witness
