@@ -14,13 +14,14 @@ use Rattle.lists.specs.Checks.{first}
 use Rattle.lists.proofs.Tests.{both}
 use Rattle.fields.specs.Checksum.{xored}
 use Rattle.fields.specs.Words as words
+use Rattle.link_frames.specs.Editions.{isEdition}
 use Rattle.link_frames.specs.Frames.{known, size, dataFrame}
 use Rattle.link_frames.specs.Reading.{begins, lacksSum, goodStart, allButSum, reading}
 use Rattle.link_state.specs.Clock.{elapsed, silence, stillDead}
 use Rattle.link_state.specs.Link.{fresh, inBaud, inOpen, renewed, kept, withDead}
 use Rattle.link_state.specs.Silence.{lost, checked}
 use Rattle.link_state.specs.Rates.{onList}
-use Rattle.link_refusals.specs.Sound.{fitsPhase, holderGood, sound}
+use Rattle.link_refusals.specs.Sound.{fitsPhase, fitsEdition, holderGood, sound}
 use Rattle.link_refusals.specs.Refusals.{shortestBuffer, checks, sendChecks}
 use Rattle.link_refusals.proofs.Sound.{checks-passed}
 use Rattle.link_events.specs.Turns.{listens}
@@ -47,7 +48,7 @@ pub record Polled (l : Link) (buffer : List ℕ) (last : ℕ) : Type 0 where
   pub outside : Outside l
 
 module _ (l : Link) (buffer : List ℕ) (last tick : ℕ) (p : Polled l buffer last) where
-  pub polled : pollStep l tick buffer .link ≡ cond (silence last tick) fresh (withDead l (stillDead (l .dead) last tick))
+  pub polled : pollStep l tick buffer .link ≡ cond (silence last tick) (fresh (l .edition)) (withDead l (stillDead (l .dead) last tick))
   unfolding pollStep call done checked
   polled = rw (p .unrefused, lost-outside (l .phase) (l .last) tick (p .outside), p .active)
 
@@ -116,7 +117,7 @@ now : (tick : ℕ) → tick < 2 ^ 32 → silence tick tick ≡ false
 unfolding silence
 now tick h = lt-leb 250 (elapsed tick tick) (omega arith)
 
-module _ (tick : ℕ) (h : tick < 2 ^ 32) (buffer : List ℕ) (k : 67 ≤ length buffer) where
+module _ (edition : ℕ) (i : isEdition edition ≡ true) (tick : ℕ) (h : tick < 2 ^ 32) (buffer : List ℕ) (k : 67 ≤ length buffer) where
   -- a sound link in Baud that was just active hears a byte
   abbrev Hears : Link → Type 0
   Hears l = (sound l ≡ true) × (l .last ≡ tick) × (l .phase ≡ Baud) × (l .dead ≡ false)
@@ -139,10 +140,10 @@ module _ (tick : ℕ) (h : tick < 2 ^ 32) (buffer : List ℕ) (k : 67 ≤ length
   hears-all l [] a = refl
   hears-all l (b ∷ bs) a = rw (hears l b (a .0)) (hears-all (heard l b tick .link) bs (a .1))
 
-  pub baud-read : receives (inBaud tick) tick buffer (0x03 ∷ 0x00 ∷ 0xC2 ∷ 0x01 ∷ 0x00 ∷ 0xC0 ∷ []) ≡ inOpen 115200 tick
+  pub baud-read : receives (inBaud edition tick) tick buffer (0x03 ∷ 0x00 ∷ 0xC2 ∷ 0x01 ∷ 0x00 ∷ 0xC0 ∷ []) ≡ inOpen edition 115200 tick
   unfolding
-      sound holderGood allAre goodStart begins known size onList fitsPhase inBaud inOpen renewed kept heard reading allButSum lacksSum
+      sound holderGood allAre goodStart begins known size onList fitsPhase fitsEdition inBaud inOpen renewed kept heard reading allButSum lacksSum
       xored wholeFrame baudFrame words.word
   baud-read =
-      hears-all (inBaud tick) (0x03 ∷ 0x00 ∷ 0xC2 ∷ 0x01 ∷ 0x00 ∷ 0xC0 ∷ [])
-      ((refl, refl, refl, refl), ((refl, refl, refl, refl), ((refl, refl, refl, refl), ((refl, refl, refl, refl), ((refl, refl, refl, refl), ((refl, refl, refl, refl), tt))))))
+      hears-all (inBaud edition tick) (0x03 ∷ 0x00 ∷ 0xC2 ∷ 0x01 ∷ 0x00 ∷ 0xC0 ∷ [])
+      ((rw i, refl, refl, refl), ((rw i, refl, refl, refl), ((rw i, refl, refl, refl), ((rw i, refl, refl, refl), ((rw i, refl, refl, refl), ((rw i, refl, refl, refl), tt))))))

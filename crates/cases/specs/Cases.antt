@@ -10,6 +10,7 @@ use Rattle.fields.specs.Merge.{merged}
 use Rattle.pins.specs.Packer.{word, packingOf}
 use Rattle.slip_framing.specs.Frame.{framed, framedAll}
 use Rattle.esp_begin.specs.Begin.{flashRule}
+use Rattle.link_frames.specs.Editions.{isEdition}
 use Rattle.link_frames.specs.Frames.{baudRate, dataFrame}
 use Rattle.link_state.specs.Clock.{elapsed}
 use Rattle.link_state.specs.Link.{inBaud, inOpen}
@@ -67,11 +68,11 @@ pub record Starred : Type 0 where
   pub case-8 : merged 0x12345678 0xFFFF0000 0x00FF00FF ≡ 0x12FF5600
   -- 9. "HD 9, Q 7, D 8, CS 11, CLK 6: 091C82C6 hex."
   pub case-9 : packingOf (record { hd = 9; q = 7; d = 8; cs = 11; clk = 6 }) ≡ word 0x091C82C6
-  -- 11. "115200: 03 00 C2 01 00 C0": the frame, and what a link in Baud makes of its bytes
+  -- 11. "115200: 03 00 C2 01 00 C0": the frame, and what a link in Baud, of either edition, makes of its bytes
   pub case-11-frame : baudRate 115200 ≡ 0x03 ∷ 0x00 ∷ 0xC2 ∷ 0x01 ∷ 0x00 ∷ 0xC0 ∷ []
   pub case-11-read :
-      (tick : ℕ) → tick < 2 ^ 32 → (buffer : List ℕ) → shortestBuffer ≤ length buffer
-      → receives (inBaud tick) tick buffer (0x03 ∷ 0x00 ∷ 0xC2 ∷ 0x01 ∷ 0x00 ∷ 0xC0 ∷ []) ≡ inOpen 115200 tick
+      (edition : ℕ) → isEdition edition ≡ true → (tick : ℕ) → tick < 2 ^ 32 → (buffer : List ℕ) → shortestBuffer ≤ length buffer
+      → receives (inBaud edition tick) tick buffer (0x03 ∷ 0x00 ∷ 0xC2 ∷ 0x01 ∷ 0x00 ∷ 0xC0 ∷ []) ≡ inOpen edition 115200 tick
   -- 12. "Data 48 49: 05 02 48 49 06": the frame, and what a call that is not refused sends
   pub case-12-frame : dataFrame (0x48 ∷ 0x49 ∷ []) ≡ 0x05 ∷ 0x02 ∷ 0x48 ∷ 0x49 ∷ 0x06 ∷ []
   pub case-12-sent :

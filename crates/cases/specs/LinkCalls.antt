@@ -26,7 +26,7 @@ pub record AliveAt (l : Link) (tick : ℕ) (buffer : List ℕ) : Type 0 where
   pub untold : pollStep l tick buffer .lost ≡ false
   pub record-stays : pollStep l tick buffer .link ≡ withDead l false
 
--- a poll at this tick tells the loss, and the record is the fresh one
+-- a poll at this tick tells the loss, and the record is the fresh one of its edition
 pub record LostAt (l : Link) (tick : ℕ) (buffer : List ℕ) : Type 0 where
   pub told : pollStep l tick buffer .lost ≡ true
-  pub in-start : pollStep l tick buffer .link ≡ fresh
+  pub in-start : pollStep l tick buffer .link ≡ fresh (l .edition)

@@ -22,7 +22,7 @@ wholeFrame l bytes tick =
 -- a byte that is not ignored
 unfoldable pub heard : Link → ℕ → ℕ → Move
 heard l byte tick =
-    byReading (reading (heldOf l) byte) (quiet (kept l byte)) (wholeFrame l (heldOf l) tick) broken
+    byReading (reading (l .edition) (heldOf l) byte) (quiet (kept l byte)) (wholeFrame l (heldOf l) tick) (broken (l .edition))
 
 -- a byte, after the silence and dead time checks
 unfoldable pub received : Link → ℕ → ℕ → Move

@@ -4,6 +4,7 @@ use link_events::Turn;
 pub use link_frames::Holder;
 pub use link_frames::Payload;
 pub use link_state::Link;
+pub use link_state::Opening;
 pub use link_state::Phase;
 pub use link_state::new;
 ghost use mathlib.Core.Path.{_≡_};
@@ -22,8 +23,8 @@ ghost use Rattle.link.specs.Step.{pullStep, byteStep, pollStep, sendStep
 
 // What a call tells, in the order in which the caller acts on it.
 pub struct Told {
-    // The link was lost to silence before this call did anything else: the line goes back to 9600, and outstanding data and the bytes of
-    // an unfinished frame are gone.
+    // The link was lost to silence before this call did anything else: the line goes back to 9600, the 5 V are switched off if they are on,
+    // and outstanding data and the bytes of an unfinished frame are gone.
     pub lost: bool,
     // So many bytes, the first of the answer buffer, are to be sent; 0 where there is nothing to send.
     pub sent: usize,
@@ -58,7 +59,7 @@ fn keep(link: Link, byte: u8) -> Link
 
 // A whole frame: all of it but the checksum is held.
 fn frame_whole(link: Link, tick: u32) -> Turn
-    requires { ⌜ holderGood (link .held) (store link) ≡ true ⌝ }
+    requires { ⌜ holderGood (link .edition) (link .held) (store link) ≡ true ⌝ }
     ensures { λ r. ⌜ moved r ≡ wholeFrame link (heldOf link) tick ⌝ }
 {
     let phase = link.phase;
@@ -76,27 +77,27 @@ fn frame_whole(link: Link, tick: u32) -> Turn
 
 // A byte that is not ignored.
 fn hear(link: Link, byte: u8, tick: u32) -> Turn
-    requires { ⌜ holderGood (link .held) (store link) ≡ true ⌝ }
+    requires { ⌜ holderGood (link .edition) (link .held) (store link) ≡ true ⌝ }
     ensures { λ r. ⌜ moved r ≡ heard link byte tick ⌝ }
 {
-    if link_frames::lacks_sum(link.held, link.kind, link.frame[0]) {
+    if link_frames::lacks_sum(link.edition, link.held, link.kind, link.frame[0]) {
         let contents = &link.frame[..];
         let count = link.held - 1;
         if byte == fields::xor_from(link.kind, &contents[..count], 0) {
             return frame_whole(link, tick);
         }
-        return link_events::break_off();
+        return link_events::break_off(link);
     }
     let next = keep(link, byte);
-    if link_frames::is_begun(next.held, next.kind, next.frame[0]) {
+    if link_frames::is_begun(next.edition, next.held, next.kind, next.frame[0]) {
         return link_events::stay(next);
     }
-    link_events::break_off()
+    link_events::break_off(link)
 }
 
 // A byte, after the silence and dead time checks.
 fn receive(link: Link, byte: u8, tick: u32) -> Turn
-    requires { ⌜ holderGood (link .held) (store link) ≡ true ⌝ }
+    requires { ⌜ holderGood (link .edition) (link .held) (store link) ≡ true ⌝ }
     ensures { λ r. ⌜ moved r ≡ received link byte tick ⌝ }
 {
     let phase = link.phase;
@@ -200,7 +201,8 @@ pub fn poll(link: Link, tick: u32, buffer: &mut [u8]) -> Next
 }
 
 // Data is to be sent, at most 64 bytes; it is outstanding until an event says `Confirmed` or `Failed`, or until the link is lost or
-// an error is detected. A send that finds the link silent is refused with 10, and the next call of another kind tells the loss.
+// an error is detected. A send that finds the link silent is refused with 10 and hands the record back as it came, with power on if it was
+// on: the next call of another kind, a poll for instance, tells the loss, and the 5 V go off with that.
 pub fn send(link: Link, bytes: &[u8], tick: u32, buffer: &mut [u8]) -> Next
     ensures { λ r. ⌜ came (r .link) (r .told) (now (buffer .exit)) ≡ sendStep link (now (bytes .entry)) tick (now (buffer .entry)) ⌝ }
 {

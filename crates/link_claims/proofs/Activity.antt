@@ -31,15 +31,15 @@ abbrev pub Turns : Link → ℕ → Bool → Link → Type 0
 Turns l tick true l′ = Refreshed tick l′
 Turns l tick false l′ = Outside l′ → (l′ .last ≡ l .last) × Outside l
 
-pub fresh-inside : fresh .phase ≡ Start
+pub fresh-inside : (edition : ℕ) → fresh edition .phase ≡ Start
 unfolding fresh
-fresh-inside = refl
+fresh-inside edition = refl
 
 -- what the checks leave outside Start was there, with its tick
 turns-checked : (l l′ : Link) (tick : ℕ) (t : Bool) → Turns (checked l tick) tick t l′ → Turns l tick t l′
 turns-checked l l′ tick true f = f
 turns-checked l l′ tick false f =
-    λ o. by-checked (λ k. (l′ .last ≡ k .last) × Outside k → (l′ .last ≡ l .last) × Outside l) l tick (λ _ x. absurd (x .1 fresh-inside)) (λ _ x. x) (f o)
+    λ o. by-checked (λ k. (l′ .last ≡ k .last) × Outside k → (l′ .last ≡ l .last) × Outside l) l tick (λ _ x. absurd (x .1 (fresh-inside (l .edition)))) (λ _ x. x) (f o)
 
 -- ---- what is answered where a call makes a move
 abbrev pub answerTo : Bool → Move → Answer
@@ -66,12 +66,13 @@ module _ (l : Link) (b tick : ℕ) (buffer : List ℕ) where
       let r : Refreshed tick (renewed l tick) = record { outside = not-start (l .phase) (l .dead) e; ticked = refl; empty = refl } in
       record {
         unread = λ q. absurd (not-start (l .phase) (l .dead) e q);
-        opens = λ rate _. record { shown = λ _. refl; turns = record { outside = λ q. never (cc); ticked = refl; empty = refl } };
+        opens = λ rate _ _. record { shown = λ _. refl; turns = record { outside = λ q. never (cc); ticked = refl; empty = refl } };
         off-list = record { shown = λ _. refl; turns = r };
         breaks = record { shown = λ _. refl; turns = λ o. absurd (o refl) };
         beats = record { shown = λ _. refl; turns = r };
         ends = λ code _ _. record { shown = λ _. ends-ours code; turns = record { outside = r .outside; ticked = refl; empty = refl } };
         sets = λ rpc _. record { shown = λ _. refl; turns = record { outside = r .outside; ticked = refl; empty = refl } };
+        powers = λ on _ _. record { shown = λ _. refl; turns = record { outside = r .outside; ticked = refl; empty = refl } };
         fails = record { shown = λ _. refl; turns = r };
         hands = λ count bytes _. record { shown = λ _. refl; turns = r };
       }
@@ -82,13 +83,13 @@ module _ (l : Link) (b tick : ℕ) (buffer : List ℕ) where
       by-received (λ m pick. Acts l (byte b tick buffer) (pick Bool false false (not (outOfPlace l (heldOf l))) false) m) l b tick
       (λ _. record { shown = λ _. refl; turns = λ o. (refl, o) })
       (λ _ _. record { shown = λ _. refl; turns = λ o. (refl, o) })
-      (λ e q. ways-whole (λ m n x. Acts l (byte b tick buffer) (not x) m) l tick (acts-ways e) (heldOf l) (whole-known (heldOf l) b q))
+      (λ e q. ways-whole (λ m n x. Acts l (byte b tick buffer) (not x) m) l tick (acts-ways e) (heldOf l) (whole-known (l .edition) (heldOf l) b q))
       (λ e. acts-ways e .breaks)
 
   acts-pull : Acts l (pull tick buffer) (byPhase (l .phase) true false false) (pulled l tick)
   unfolding active pulled frameOf inBaud
   acts-pull = by-phase (l .phase) where
-    by-phase : (p : Phase) → Acts l (pull tick buffer) (byPhase p true false false) (byPhase p (answers (inBaud tick) heartbeat) (quiet l) (quiet l))
+    by-phase : (p : Phase) → Acts l (pull tick buffer) (byPhase p true false false) (byPhase p (answers (inBaud (l .edition) tick) heartbeat) (quiet l) (quiet l))
     by-phase Start = record { shown = λ _. refl; turns = record { outside = λ q. never (cc); ticked = refl; empty = refl } }
     by-phase Baud = record { shown = λ _. refl; turns = λ o. (refl, o) }
     by-phase Open = record { shown = λ _. refl; turns = λ o. (refl, o) }

@@ -28,7 +28,7 @@ Since tick l m = m .link .dead ≡ true → ((l .dead ≡ true) × (m .link .las
 -- a sound link that listens is out of dead time
 awake : (l : Link) → sound l ≡ true → listens (l .phase) (l .dead) ≡ true → l .dead ≡ true → ⊥
 unfolding listens fitsPhase
-awake l s e d = by-phase (l .phase) (rw d at (tests l s .1 .1)) (rw d at e) where
+awake l s e d = by-phase (l .phase) (rw d at (tests l s .1 .1 .0)) (rw d at e) where
   by-phase : (p : Phase) → fitsPhase p true (l .rpc) (l .outstanding) (l .rate) (l .held) ≡ true → listens p true ≡ true → ⊥
   by-phase Start f q = absurd-test q
   by-phase Baud f q = absurd-test f
@@ -41,12 +41,13 @@ module _ (l : Link) (tick : ℕ) (s : sound l ≡ true) where
       let a = awake l s e in
       record {
         unread = λ _ d. absurd (a d);
-        opens = λ rate _ _. inr (rate, refl, refl);
+        opens = λ rate _ _ _. inr (rate, refl, refl);
         off-list = λ d. absurd (a d);
         breaks = λ d. absurd-test d;
         beats = λ d. absurd (a d);
         ends = λ code _ _ d. absurd (a d);
         sets = λ rpc _ d. absurd (a d);
+        powers = λ on _ _ d. absurd (a d);
         fails = λ d. absurd (a d);
         hands = λ count bytes _ d. absurd (a d);
       }

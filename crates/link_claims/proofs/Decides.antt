@@ -43,17 +43,17 @@ not-dead : (d : Bool) (last tick : ℕ) → d ≡ false → stillDead d last tic
 unfolding stillDead
 not-dead d last tick e = rw e
 
-fresh-empty : fresh .held ≡ 0
+fresh-empty : (edition : ℕ) → fresh edition .held ≡ 0
 unfolding fresh
-fresh-empty = refl
+fresh-empty edition = refl
 
-fresh-ignores : (b tick : ℕ) → received fresh b tick .link .held ≡ 0
+fresh-ignores : (edition b tick : ℕ) → received (fresh edition) b tick .link .held ≡ 0
 unfolding received listens fresh
-fresh-ignores b tick = refl
+fresh-ignores edition b tick = refl
 
-baud-empty : (tick : ℕ) → inBaud tick .held ≡ 0
+baud-empty : (edition tick : ℕ) → inBaud edition tick .held ≡ 0
 unfolding inBaud
-baud-empty tick = refl
+baud-empty edition tick = refl
 
 module _ (l : Link) (p : Parts l) (d : l .dead ≡ false) (tick : ℕ) where
   same : Next 0 l l
@@ -65,12 +65,13 @@ module _ (l : Link) (p : Parts l) (d : l .dead ≡ false) (tick : ℕ) where
   next-ways =
       record {
         unread = λ _. empty refl;
-        opens = λ rate e. empty refl;
+        opens = λ rate _ _. empty refl;
         off-list = empty refl;
-        breaks = empty fresh-empty;
+        breaks = empty (fresh-empty (l .edition));
         beats = empty refl;
         ends = λ code _ e. empty refl;
         sets = λ rpc e. empty refl;
+        powers = λ on _ _. empty refl;
         fails = empty refl;
         hands = λ count bytes _. empty refl;
       }
@@ -86,11 +87,11 @@ module _ (l : Link) (p : Parts l) (d : l .dead ≡ false) (tick : ℕ) where
 
 module _ (l : Link) (p : Parts l) (d : l .dead ≡ false) (tick : ℕ) where
   next-checked : Next 0 l (checked l tick)
-  next-checked = by-checked (Next 0 l) l tick (λ _. empty fresh-empty) (λ _. longer (omega arith) (not-dead (l .dead) (l .last) tick d))
+  next-checked = by-checked (Next 0 l) l tick (λ _. empty (fresh-empty (l .edition))) (λ _. longer (omega arith) (not-dead (l .dead) (l .last) tick d))
 
   next-heard : (b : ℕ) → Next 1 l (received (checked l tick) b tick .link)
   next-heard b =
-      by-checked (λ l′. Next 1 l (received l′ b tick .link)) l tick (λ _. empty (fresh-ignores b tick))
+      by-checked (λ l′. Next 1 l (received l′ b tick .link)) l tick (λ _. empty (fresh-ignores (l .edition) b tick))
       (λ _. again (next-received _ (parts-dead l p (l .last) tick) (not-dead (l .dead) (l .last) tick d) tick b)) where
         again : {l′ : Link} → Next 1 (withDead l (stillDead (l .dead) (l .last) tick)) l′ → Next 1 l l′
         again (empty e) = empty e
@@ -98,7 +99,7 @@ module _ (l : Link) (p : Parts l) (d : l .dead ≡ false) (tick : ℕ) where
 
   -- ---- the other calls
   next-pulled : Next 0 l (pulled (checked l tick) tick .link)
-  next-pulled = by-pulled (λ m. Next 0 l (m .link)) (checked l tick) tick (empty (baud-empty tick)) next-checked
+  next-pulled = by-pulled (λ m. Next 0 l (m .link)) (checked l tick) tick (empty (baud-empty (checked l tick .edition) tick)) next-checked
 
   next-sent : Next 0 l (withOutstanding (checked l tick) true)
   next-sent = with-out next-checked where
@@ -136,7 +137,7 @@ onward l c cs h go (longer e f) = later (go f (omega arith))
 
 empties : (cs : List Call) (l : Link) → Parts l → l .dead ≡ false → mostHeld < l .held + bytesIn cs → Empties l cs
 unfolding bytesIn
-empties [] l p d h = absurd (omega (arith, held-good (l .held) (l .kind) (l .frame) (p .holder) .most))
+empties [] l p d h = absurd (omega (arith, held-good (l .edition) (l .held) (l .kind) (l .frame) (p .holder) .most))
 empties (c ∷ cs) l p d h = onward l c cs h (λ f k. empties cs (step l c .link) (parts-step l c p) f k) (next-step l c p d)
 
 pub decides : Decides

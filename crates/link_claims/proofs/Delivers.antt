@@ -93,21 +93,21 @@ module _ (l : Link) (c : Call) (buffer : List ℕ) where
       (rw (q, e, answer-done false (quiet l′) buffer) (after-quiet (x .0)), rw q (x .1))
 
 -- ---- the bytes of a frame
-data NextRead (h f : List ℕ) (b : ℕ) (bs : List ℕ) : Type 0 where
-  holds : reading h b ≡ more → readFrom (h ++ (b ∷ [])) bs ≡ frame f [] → NextRead h f b bs
-  completes : reading h b ≡ whole → h ≡ f → bs ≡ [] → NextRead h f b bs
+data NextRead (edition : ℕ) (h f : List ℕ) (b : ℕ) (bs : List ℕ) : Type 0 where
+  holds : reading edition h b ≡ more → readFrom edition (h ++ (b ∷ [])) bs ≡ frame f [] → NextRead edition h f b bs
+  completes : reading edition h b ≡ whole → h ≡ f → bs ≡ [] → NextRead edition h f b bs
 
-next-read : (h f : List ℕ) (b : ℕ) (bs : List ℕ) → readFrom h (b ∷ bs) ≡ frame f [] → NextRead h f b bs
+next-read : (edition : ℕ) (h f : List ℕ) (b : ℕ) (bs : List ℕ) → readFrom edition h (b ∷ bs) ≡ frame f [] → NextRead edition h f b bs
 unfolding readFrom
-next-read h f b bs = by-test (reading h b) refl where
-  by-test : (r : Reading) → reading h b ≡ r → byReading r (readFrom (h ++ (b ∷ [])) bs) (frame h bs) (error bs) ≡ frame f [] → NextRead h f b bs
+next-read edition h f b bs = by-test (reading edition h b) refl where
+  by-test : (r : Reading) → reading edition h b ≡ r → byReading r (readFrom edition (h ++ (b ∷ [])) bs) (frame h bs) (error bs) ≡ frame f [] → NextRead edition h f b bs
   by-test more e q = holds e q
   by-test whole e q = let a : h ≡ f = cc in let b : bs ≡ [] = cc in completes e a b
   by-test wrong e q = never (cc)
 
-no-frame : (h f : List ℕ) → readFrom h [] ≡ frame f [] → ⊥
+no-frame : (edition : ℕ) (h f : List ℕ) → readFrom edition h [] ≡ frame f [] → ⊥
 unfolding readFrom
-no-frame h f e = never (cc)
+no-frame edition h f e = never (cc)
 
 some-byte : {last end : ℕ} {bs : List ℕ} {cs : List Call} → Carries last bs end cs → bs ≡ [] → ⊥
 some-byte (last-byte b tick buffer t) e = never (cc)
@@ -116,11 +116,11 @@ some-byte (first-poll tick buffer t c) e = some-byte c e
 some-byte (first-pull tick buffer t c) e = some-byte c e
 
 module _ (l : Link) (b tick : ℕ) where
-  heard-more : reading (heldOf l) b ≡ more → heard l b tick ≡ quiet (kept l b)
+  heard-more : reading (l .edition) (heldOf l) b ≡ more → heard l b tick ≡ quiet (kept l b)
   unfolding heard
   heard-more e = rw e
 
-  heard-whole : (f : List ℕ) → reading (heldOf l) b ≡ whole → heldOf l ≡ f → heard l b tick ≡ wholeFrame l f tick
+  heard-whole : (f : List ℕ) → reading (l .edition) (heldOf l) b ≡ whole → heldOf l ≡ f → heard l b tick ≡ wholeFrame l f tick
   unfolding heard
   heard-whole f e q = rw (e, q)
 
@@ -128,11 +128,11 @@ module _ (l : Link) (b tick : ℕ) where
   unfolding wholeFrame renewed kept
   whole-kept f = refl
 
-module _ (last : ℕ) (l : Link) (h : Hears last l) (b : ℕ) (e : reading (heldOf l) b ≡ more) where
+module _ (last : ℕ) (l : Link) (h : Hears last l) (b : ℕ) (e : reading (l .edition) (heldOf l) b ≡ more) where
   hears-kept : Hears last (kept l b)
   unfolding kept
   hears-kept =
-      let g = goes-on (heldOf l) b e in
+      let g = goes-on (l .edition) (heldOf l) b e in
       record {
         good = parts-kept l (h .good) (g .0) b (g .1) (λ q. open-outside (sym (h .connected) ∙ q));
         connected = h .connected;
@@ -141,21 +141,25 @@ module _ (last : ℕ) (l : Link) (h : Hears last l) (b : ℕ) (e : reading (held
       }
 
   held-more : heldOf (kept l b) ≡ heldOf l ++ (b ∷ [])
-  held-more = held-kept l b (h .good .long) (left l (h .good) (goes-on (heldOf l) b e .0))
+  held-more = held-kept l b (h .good .long) (left l (h .good) (goes-on (l .edition) (heldOf l) b e .0))
 
-frame-ends : {last end : ℕ} {bs : List ℕ} {cs : List Call} (f : List ℕ) (l : Link) → Hears last l → Carries last bs end cs → readFrom (heldOf l) bs ≡ frame f []
+edition-kept : (l : Link) (b : ℕ) → kept l b .edition ≡ l .edition
+unfolding kept
+edition-kept l b = refl
+
+frame-ends : {last end : ℕ} {bs : List ℕ} {cs : List Call} (f : List ℕ) (l : Link) → Hears last l → Carries last bs end cs → readFrom (l .edition) (heldOf l) bs ≡ frame f []
     → Ends l cs (answerTo false (wholeFrame l f end)) (wholeFrame l f end .link)
-frame-ends f l h (last-byte b tick buffer t) e = by-next (next-read (heldOf l) f b [] e) where
-  by-next : NextRead (heldOf l) f b [] → Ends l (byte b tick buffer ∷ []) (answerTo false (wholeFrame l f tick)) (wholeFrame l f tick .link)
-  by-next (holds r q) = absurd (no-frame _ f q)
+frame-ends f l h (last-byte b tick buffer t) e = by-next (next-read (l .edition) (heldOf l) f b [] e) where
+  by-next : NextRead (l .edition) (heldOf l) f b [] → Ends l (byte b tick buffer ∷ []) (answerTo false (wholeFrame l f tick)) (wholeFrame l f tick .link)
+  by-next (holds r q) = absurd (no-frame (l .edition) _ f q)
   by-next (completes r q n) = finish l (byte b tick buffer) buffer (wholeFrame l f tick) (step-byte _ l h tick buffer t b ∙ ap (λ m. done false m buffer) (heard-whole l b tick f r q))
 frame-ends {last = last} f l h (next-byte {end = end} {bs = bs} {cs = cs} b tick buffer t x) e =
-    by-next (λ h′ q. frame-ends f (kept l b) h′ x q) (next-read (heldOf l) f b bs e) where
-      by-next : (Hears last (kept l b) → readFrom (heldOf (kept l b)) bs ≡ frame f [] → Ends (kept l b) cs (answerTo false (wholeFrame (kept l b) f end)) (wholeFrame (kept l b) f end .link))
-          → NextRead (heldOf l) f b bs → Ends l (byte b tick buffer ∷ cs) (answerTo false (wholeFrame l f end)) (wholeFrame l f end .link)
+    by-next (λ h′ q. frame-ends f (kept l b) h′ x q) (next-read (l .edition) (heldOf l) f b bs e) where
+      by-next : (Hears last (kept l b) → readFrom (kept l b .edition) (heldOf (kept l b)) bs ≡ frame f [] → Ends (kept l b) cs (answerTo false (wholeFrame (kept l b) f end)) (wholeFrame (kept l b) f end .link))
+          → NextRead (l .edition) (heldOf l) f b bs → Ends l (byte b tick buffer ∷ cs) (answerTo false (wholeFrame l f end)) (wholeFrame l f end .link)
       by-next go (holds r q) =
           go-on l (byte b tick buffer) buffer cs (kept l b) _ _ (step-byte _ l h tick buffer t b ∙ ap (λ m. done false m buffer) (heard-more l b tick r))
-          (rw (whole-kept l b end f) at (go (hears-kept _ l h b r) (ap (λ xs. readFrom xs bs) (held-more _ l h b r) ∙ q)))
+          (rw (whole-kept l b end f) at (go (hears-kept _ l h b r) (ap (λ e. readFrom e (heldOf (kept l b)) bs) (edition-kept l b) ∙ (ap (λ xs. readFrom (l .edition) xs bs) (held-more _ l h b r) ∙ q))))
       by-next go (completes r q n) = absurd (some-byte x n)
 frame-ends f l h (first-poll tick buffer t x) e = go-on l (poll tick buffer) buffer _ l _ _ (step-poll _ l h tick buffer t) (frame-ends f l h x e)
 frame-ends f l h (first-pull tick buffer t x) e = go-on l (pull tick buffer) buffer _ l _ _ (step-pull _ l h tick buffer t) (frame-ends f l h x e)
@@ -175,7 +179,7 @@ module _ (l : Link) (r : Listening l) where
   arrives : l .rpc ≡ true → (bytes : List ℕ) → length bytes ≤ mostData → (end : ℕ) (cs : List Call) → Carries (l .last) (dataFrame bytes) end cs
       → Ends l cs (handing bytes) (renewed l end)
   arrives o bytes n end cs x =
-      let q : readFrom (heldOf l) (dataFrame bytes) ≡ frame (dataType ∷ length bytes ∷ bytes) [] = rw nothing-held (rw append-nil at (reads-own .data-frames bytes n [])) in
+      let q : readFrom (l .edition) (heldOf l) (dataFrame bytes) ≡ frame (dataType ∷ length bytes ∷ bytes) [] = rw nothing-held (rw append-nil at (reads-own .data-frames (l .edition) bytes n [])) in
       rw (data-taken o bytes end) at (frame-ends _ l listening-hears x q)
 
   status-taken : l .outstanding ≡ true → (code end : ℕ) → wholeFrame l (statusType ∷ code ∷ []) end ≡ tells (withOutstanding (renewed l end) false) (ended code)
@@ -185,7 +189,7 @@ module _ (l : Link) (r : Listening l) where
   answered : l .outstanding ≡ true → (code : ℕ) → code ≤ 2 → (end : ℕ) (cs : List Call) → Carries (l .last) (status code) end cs
       → Ends l cs (ending code) (withOutstanding (renewed l end) false)
   answered o code n end cs x =
-      let q : readFrom (heldOf l) (status code) ≡ frame (statusType ∷ code ∷ []) [] = rw nothing-held (rw append-nil at (reads-own .statuses code n [])) in
+      let q : readFrom (l .edition) (heldOf l) (status code) ≡ frame (statusType ∷ code ∷ []) [] = rw nothing-held (rw append-nil at (reads-own .statuses (l .edition) code n [])) in
       rw (status-taken o code end) at (frame-ends _ l listening-hears x q)
 
 module _ (l : Link) (r : Listening l) (p : l .rpc ≡ true) (o : l .outstanding ≡ false) (bytes : List ℕ) (n : length bytes ≤ mostData) (tick : ℕ) (buffer : List ℕ) (t : Timely (l .last) tick buffer) where

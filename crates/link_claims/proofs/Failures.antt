@@ -44,7 +44,7 @@ dead-over Open d x r o rate n f e = not-true (d && x) e
 module _ (l : Link) (tick : ℕ) (s : sound l ≡ true) (e : listens (checked l tick .phase) (checked l tick .dead) ≡ true) where
   no-dead : stillDead (l .dead) (l .last) tick ≡ false
   unfolding checked stillDead
-  no-dead = dead-over (l .phase) (l .dead) _ (l .rpc) (l .outstanding) (l .rate) (l .held) (tests l s .1 .1) (rw (not-lost l tick e) at e)
+  no-dead = dead-over (l .phase) (l .dead) _ (l .rpc) (l .outstanding) (l .rate) (l .held) (tests l s .1 .1 .0) (rw (not-lost l tick e) at e)
 
   failed-off : (n : ℕ) (buffer : List ℕ) → done (lost (l .phase) (l .last) tick) (answers (renewed (checked l tick) tick) (status n)) buffer ≡ failing n l tick buffer
   unfolding done checked renewed

@@ -15,3 +15,8 @@ pub mod Silence
 pub mod DeadTime
 pub mod Delivers
 pub mod Worked
+pub mod Same
+pub mod Power
+pub mod Asks
+pub mod Editions
+pub mod WorkedPower

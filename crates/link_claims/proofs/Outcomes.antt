@@ -11,7 +11,7 @@ use Rattle.link_frames.specs.Frames.{frameOf, heartbeat, status, dataFrame}
 use Rattle.link_state.specs.Link.{fresh, inBaud, renewed}
 use Rattle.link_state.specs.Silence.{lost, checked}
 use Rattle.link_state.specs.declared.Link.{Link}
-use Rattle.link_events.specs.Moves.{Saying, nothing, opened, handed, detected, refused, ended, Move}
+use Rattle.link_events.specs.Moves.{Saying, nothing, opened, handed, powered, detected, refused, ended, Move}
 use Rattle.link_events.specs.Turns.{quiet, answers, broken, pulled, listens}
 use Rattle.link_claims.specs.Calls.{Call, pull, byte, poll, send, tickOf}
 use Rattle.link_claims.specs.Errors.{showsError}
@@ -32,6 +32,9 @@ calm-opened rate = record { not-refused = λ n e. never (cc); not-detected = λ 
 
 calm-handed : (count : ℕ) → Calm (handed count)
 calm-handed count = record { not-refused = λ n e. never (cc); not-detected = λ e. never (cc) }
+
+calm-powered : (on : Bool) → Calm (powered on)
+calm-powered on = record { not-refused = λ n e. never (cc); not-detected = λ e. never (cc) }
 
 calm-ended : (code : ℕ) → Calm (ended code)
 unfolding ended
@@ -68,7 +71,7 @@ pub record Other (m : Move) : Type 0 where
 
 pub data Outcome (l : Link) (tick : ℕ) : Move → ℕ → Bool → Type 0 where
   fails : (n : ℕ) → (n ≡ 0 → ⊥) → listens (l .phase) (l .dead) ≡ true → Outcome l tick (answers (renewed l tick) (status n)) n false
-  breaks : listens (l .phase) (l .dead) ≡ true → Outcome l tick broken 0 true
+  breaks : listens (l .phase) (l .dead) ≡ true → Outcome l tick (broken (l .edition)) 0 true
   goes : {m : Move} → Other m → Outcome l tick m 0 false
 
 calmly : (l : Link) (sends : List ℕ) → Clean sends → Other (answers l sends)
@@ -82,18 +85,19 @@ module _ (l : Link) (tick : ℕ) where
   outcome-ways e =
       record {
         unread = λ _. goes (quietly (renewed l tick));
-        opens = λ rate _. goes (record { calm = calm-opened rate; clean = clean-zero });
+        opens = λ rate _ _. goes (record { calm = calm-opened rate; clean = clean-zero });
         off-list = fails 2 (λ q. omega arith) e;
         breaks = breaks e;
         beats = goes (calmly (renewed l tick) heartbeat clean-heartbeat);
         ends = λ code _ _. goes (record { calm = calm-ended code; clean = clean-none });
         sets = λ rpc _. goes (calmly _ (status 0) clean-zero);
+        powers = λ on _ _. goes (record { calm = calm-powered on; clean = clean-zero });
         fails = fails 1 (λ q. omega arith) e;
         hands = λ count bytes _. goes (record { calm = calm-handed count; clean = clean-zero });
       }
 
   outcome-pulled : Outcome l tick (pulled l tick) 0 false
-  outcome-pulled = by-pulled (λ m. Outcome l tick m 0 false) l tick (goes (calmly (inBaud tick) heartbeat clean-heartbeat)) (goes (quietly l))
+  outcome-pulled = by-pulled (λ m. Outcome l tick m 0 false) l tick (goes (calmly (inBaud (l .edition) tick) heartbeat clean-heartbeat)) (goes (quietly l))
 
 pub outcome : (l : Link) (c : Call) → Outcome (checked l (tickOf c)) (tickOf c) (moveOf l c) (failureOf l c) (showsError l c)
 unfolding failureOf showsError
@@ -104,10 +108,10 @@ outcome l (poll tick buffer) = goes (quietly (checked l tick))
 outcome l (send bytes tick buffer) = goes (calmly _ (dataFrame bytes) (clean-data bytes))
 
 -- ---- a link that listens was not lost
-fresh-deaf : listens (fresh .phase) (fresh .dead) ≡ true → ⊥
+fresh-deaf : (edition : ℕ) → listens (fresh edition .phase) (fresh edition .dead) ≡ true → ⊥
 unfolding fresh listens
-fresh-deaf e = absurd-test e
+fresh-deaf edition e = absurd-test e
 
 pub not-lost : (l : Link) (tick : ℕ) → listens (checked l tick .phase) (checked l tick .dead) ≡ true → lost (l .phase) (l .last) tick ≡ false
 not-lost l tick =
-    by-checked (λ l′. listens (l′ .phase) (l′ .dead) ≡ true → lost (l .phase) (l .last) tick ≡ false) l tick (λ _ e. absurd (fresh-deaf e)) (λ q _. q)
+    by-checked (λ l′. listens (l′ .phase) (l′ .dead) ≡ true → lost (l .phase) (l .last) tick ≡ false) l tick (λ _ e. absurd (fresh-deaf (l .edition) e)) (λ q _. q)

@@ -27,7 +27,7 @@ use Rattle.link_claims.specs.Answered.{answerOf, answersTo}
 use Rattle.link_claims.specs.Activity.{active, latest, lastActive}
 use Rattle.link_claims.specs.Silence.{Outside, activeAt, Recent, Refreshed, losing, SilenceCountsFrames}
 use Rattle.link_claims.proofs.Ways.{moveOf, carried, by-refusal, by-checked, by-pulled, Ways, ways-received}
-use Rattle.link_claims.proofs.Sound.{whole-again, parts-fresh, checks-pass, send-open}
+use Rattle.link_claims.proofs.Sound.{whole-again, parts-fresh, sound-edition, checks-pass, send-open}
 use Rattle.link_claims.proofs.Apart.{never}
 use Rattle.link_claims.proofs.Activity.{Turns, fresh-inside, carried-turns, active-step}
 
@@ -54,8 +54,8 @@ last-active (c ∷ cs) l past h o =
     latest-again (lastActive cs (answersTo (step l c .link) cs)) _ past
     ∙ last-active cs (step l c .link) _ (onward l (step l c .link) (tickOf c) (active c (answerOf (step l c))) past (active-step l c .turns) h) o
 
-ticks : (calls : List Call) → Outside (after fresh calls) → activeAt calls ≡ some (after fresh calls .last)
-ticks calls o = sym (latest-none (activeAt calls)) ∙ last-active calls fresh none (λ q. absurd (q fresh-inside)) o
+ticks : (edition : ℕ) (calls : List Call) → Outside (after (fresh edition) calls) → activeAt edition calls ≡ some (after (fresh edition) calls .last)
+ticks edition calls o = sym (latest-none (activeAt edition calls)) ∙ last-active calls (fresh edition) none (λ q. absurd (q (fresh-inside edition))) o
 
 module _ (l : Link) (c : Call) where
   refreshes : active c (answerOf (step l c)) ≡ true → Refreshed (tickOf c) (step l c .link)
@@ -75,12 +75,12 @@ lost-outside Open last tick h = refl
 some-back : {a b : ℕ} → some a ≡ some b → a ≡ b
 some-back e = cc
 
-loss-told : (calls : List Call) (c : Call) (tick : ℕ) → Outside (after fresh calls) → activeAt calls ≡ some tick → refusalOf (after fresh calls) c ≡ 0
-    → step (after fresh calls) c .lost ≡ leb silenceTime (elapsed tick (tickOf c))
+loss-told : (edition : ℕ) (calls : List Call) (c : Call) (tick : ℕ) → Outside (after (fresh edition) calls) → activeAt edition calls ≡ some tick → refusalOf (after (fresh edition) calls) c ≡ 0
+    → step (after (fresh edition) calls) c .lost ≡ leb silenceTime (elapsed tick (tickOf c))
 unfolding done silence
-loss-told calls c tick o e z =
-    let l = after fresh calls in
-    let q : l .last ≡ tick = some-back (sym (ticks calls o) ∙ e) in
+loss-told edition calls c tick o e z =
+    let l = after (fresh edition) calls in
+    let q : l .last ≡ tick = some-back (sym (ticks edition calls o) ∙ e) in
     by-refusal (λ s. s .lost ≡ leb silenceTime (elapsed tick (tickOf c))) l c
     (λ _. lost-outside (l .phase) (l .last) (tickOf c) o ∙ ap (λ x. leb silenceTime (elapsed x (tickOf c))) q)
     (λ h. absurd (h z))
@@ -90,12 +90,12 @@ none-lost : (l : Link) (c : Call) → l .phase ≡ Start → step l c .lost ≡ 
 unfolding done refusing lost
 none-lost l c q = by-refusal (λ s. s .lost ≡ false) l c (λ _. rw q) (λ _. refl)
 
-alive-at : (calls : List Call) (tick : ℕ) → Outside (checked (after fresh calls) tick) → Recent (activeAt calls) tick
+alive-at : (edition : ℕ) (calls : List Call) (tick : ℕ) → Outside (checked (after (fresh edition) calls) tick) → Recent (activeAt edition calls) tick
 unfolding silence
-alive-at calls tick =
-    let l = after fresh calls in
-    by-checked (λ l′. Outside l′ → Recent (activeAt calls) tick) l tick (λ _ o. absurd (o fresh-inside))
-    (λ q o. rw (ticks calls o) (leb-false silenceTime (elapsed (l .last) tick) (sym (lost-outside (l .phase) (l .last) tick o) ∙ q)))
+alive-at edition calls tick =
+    let l = after (fresh edition) calls in
+    by-checked (λ l′. Outside l′ → Recent (activeAt edition calls) tick) l tick (λ _ o. absurd (o (fresh-inside (l .edition))))
+    (λ q o. rw (ticks edition calls o) (leb-false silenceTime (elapsed (l .last) tick) (sym (lost-outside (l .phase) (l .last) tick o) ∙ q)))
 
 -- outside Start after a call that is carried out, the call is active, or the checks left the link there
 active-or : (l : Link) (c : Call) {P : Type 0} → (Outside (checked l (tickOf c)) → P) → Outside (carried l c .link) → (active c (answerOf (carried l c)) ≡ true) ⊎ P
@@ -105,11 +105,11 @@ active-or l c {P = P} g = by-test (active c (answerOf (carried l c))) refl (carr
   by-test true e f o = inl e
   by-test false e f o = inr (g (f o .1))
 
-alive : (calls : List Call) (c : Call) → refusalOf (after fresh calls) c ≡ 0 → Outside (step (after fresh calls) c .link)
-    → (active c (answerOf (step (after fresh calls) c)) ≡ true) ⊎ Recent (activeAt calls) (tickOf c)
-alive calls c z =
-    by-refusal (λ s. Outside (s .link) → (active c (answerOf s) ≡ true) ⊎ Recent (activeAt calls) (tickOf c)) (after fresh calls) c
-    (λ _. active-or (after fresh calls) c (alive-at calls (tickOf c))) (λ h. absurd (h z))
+alive : (edition : ℕ) (calls : List Call) (c : Call) → refusalOf (after (fresh edition) calls) c ≡ 0 → Outside (step (after (fresh edition) calls) c .link)
+    → (active c (answerOf (step (after (fresh edition) calls) c)) ≡ true) ⊎ Recent (activeAt edition calls) (tickOf c)
+alive edition calls c z =
+    by-refusal (λ s. Outside (s .link) → (active c (answerOf s) ≡ true) ⊎ Recent (activeAt edition calls) (tickOf c)) (after (fresh edition) calls) c
+    (λ _. active-or (after (fresh edition) calls) c (alive-at edition calls (tickOf c))) (λ h. absurd (h z))
 
 -- ---- a return to Start
 abbrev Ends : Link → Move → Type 0
@@ -121,12 +121,13 @@ module _ (l : Link) (tick : ℕ) where
   ends-ways =
       record {
         unread = λ q _. inl q;
-        opens = λ rate _ q. never (cc);
+        opens = λ rate _ _ q. never (cc);
         off-list = inl;
         breaks = λ _. inr refl;
         beats = inl;
         ends = λ code _ _. inl;
         sets = λ rpc _. inl;
+        powers = λ on _ _. inl;
         fails = inl;
         hands = λ count bytes _. inl;
       }
@@ -157,40 +158,40 @@ returns l c o =
     (λ _ q. absurd (o q))
 
 -- ---- a call that finds the link lost
-checked-fresh : (tick : ℕ) → checked fresh tick ≡ fresh
+checked-fresh : (edition tick : ℕ) → checked (fresh edition) tick ≡ fresh edition
 unfolding checked fresh lost stillDead
-checked-fresh tick = refl
+checked-fresh edition tick = refl
 
 module _ (l : Link) (tick : ℕ) (e : lost (l .phase) (l .last) tick ≡ true) where
-  checked-lost : checked l tick ≡ fresh
+  checked-lost : checked l tick ≡ fresh (l .edition)
   unfolding checked
   checked-lost = rw e
 
 module _ (l : Link) where
-  wide-fresh : (n : ℕ) → first (checks l n) ≡ 0 → first (checks fresh n) ≡ 0
-  wide-fresh n e = checks-pass fresh n (whole-again fresh parts-fresh .passes) (checks-passed l n e .1)
+  wide-fresh : (n : ℕ) → first (checks l n) ≡ 0 → first (checks (fresh (l .edition)) n) ≡ 0
+  wide-fresh n e = checks-pass (fresh (l .edition)) n (whole-again (fresh (l .edition)) (parts-fresh (l .edition) (sound-edition l (checks-passed l n e .0))) .passes) (checks-passed l n e .1)
 
   -- it is let pass on a fresh link, and it is not a send
-  passes-fresh : (c : Call) → lost (l .phase) (l .last) (tickOf c) ≡ true → refusalOf l c ≡ 0 → refusalOf fresh c ≡ 0
+  passes-fresh : (c : Call) → lost (l .phase) (l .last) (tickOf c) ≡ true → refusalOf l c ≡ 0 → refusalOf (fresh (l .edition)) c ≡ 0
   unfolding refusalOf tableOf
   passes-fresh (pull tick buffer) e z = wide-fresh (length buffer) z
   passes-fresh (byte b tick buffer) e z = wide-fresh (length buffer) z
   passes-fresh (poll tick buffer) e z = wide-fresh (length buffer) z
   passes-fresh (send bytes tick buffer) e z =
-      let q : Start ≡ Open = sym fresh-inside ∙ (rw (checked-lost l tick e) at (send-open l (checked l tick) (length bytes) (length buffer) z)) in
+      let q : Start ≡ Open = sym (fresh-inside (l .edition)) ∙ (rw (checked-lost l tick e) at (send-open l (checked l tick) (length bytes) (length buffer) z)) in
       never (cc)
 
-  same-moves : (c : Call) → lost (l .phase) (l .last) (tickOf c) ≡ true → carried l c ≡ losing (carried fresh c)
+  same-moves : (c : Call) → lost (l .phase) (l .last) (tickOf c) ≡ true → carried l c ≡ losing (carried (fresh (l .edition)) c)
   unfolding done
-  same-moves (pull tick buffer) e = rw (e, checked-lost l tick e, checked-fresh tick)
-  same-moves (byte b tick buffer) e = rw (e, checked-lost l tick e, checked-fresh tick)
-  same-moves (poll tick buffer) e = rw (e, checked-lost l tick e, checked-fresh tick)
-  same-moves (send bytes tick buffer) e = rw (e, checked-lost l tick e, checked-fresh tick)
+  same-moves (pull tick buffer) e = rw (e, checked-lost l tick e, checked-fresh (l .edition) tick)
+  same-moves (byte b tick buffer) e = rw (e, checked-lost l tick e, checked-fresh (l .edition) tick)
+  same-moves (poll tick buffer) e = rw (e, checked-lost l tick e, checked-fresh (l .edition) tick)
+  same-moves (send bytes tick buffer) e = rw (e, checked-lost l tick e, checked-fresh (l .edition) tick)
 
-  unfinished : (c : Call) → refusalOf l c ≡ 0 → lost (l .phase) (l .last) (tickOf c) ≡ true → step l c ≡ losing (step fresh c)
+  unfinished : (c : Call) → refusalOf l c ≡ 0 → lost (l .phase) (l .last) (tickOf c) ≡ true → step l c ≡ losing (step (fresh (l .edition)) c)
   unfinished c z e =
-      by-refusal (λ s. s ≡ losing (step fresh c)) l c
-      (λ _. by-refusal (λ s. carried l c ≡ losing s) fresh c (λ _. same-moves c e) (λ h. absurd (h (passes-fresh c e z))))
+      by-refusal (λ s. s ≡ losing (step (fresh (l .edition)) c)) l c
+      (λ _. by-refusal (λ s. carried l c ≡ losing s) (fresh (l .edition)) c (λ _. same-moves c e) (λ h. absurd (h (passes-fresh c e z))))
       (λ h. absurd (h z))
 
 pub silence-counts-frames : SilenceCountsFrames

@@ -1,14 +1,14 @@
 -- What the cases of an answer carry.
 use Prim.Native.Nat.{ℕ, zero, suc, _≤_}
 use mathlib.Core.Path.{_≡_}
-use mathlib.Core.Bool.{true}
+use mathlib.Core.Bool.{Bool, true}
 use native.Mathlib.Omega.{arith}
 use lib.Dec.{eqb·suc-zero}
 use Rattle.link_frames.specs.Frames.{mostData}
 use Rattle.link_state.specs.Silence.{checked}
 use Rattle.link_state.specs.Rates.{onList}
 use Rattle.link_state.specs.declared.Link.{Link}
-use Rattle.link_events.specs.Moves.{Saying, nothing, opened, handed, failed, detected, refused, ended}
+use Rattle.link_events.specs.Moves.{Saying, nothing, opened, handed, powered, failed, detected, refused, ended}
 use Rattle.link.specs.Answers.{done, refusing}
 use Rattle.link_claims.specs.Calls.{Call, pull, byte, poll, send, step}
 use Rattle.link_claims.specs.Tells.{TellsOnly}
@@ -25,6 +25,9 @@ says-nothing = record { rate = λ r e. never (cc); count = λ n e. never (cc); c
 
 says-detected : Says detected
 says-detected = record { rate = λ r e. never (cc); count = λ n e. never (cc); code = λ n e. never (cc) }
+
+says-powered : (on : Bool) → Says (powered on)
+says-powered on = record { rate = λ r e. never (cc); count = λ n e. never (cc); code = λ n e. never (cc) }
 
 says-refused : (k : ℕ) → Says (refused k)
 says-refused k = record { rate = λ r e. never (cc); count = λ n e. never (cc); code = λ n e. never (cc) }
@@ -48,12 +51,13 @@ says-ways : (l : Link) (tick : ℕ) → Ways (λ m n e. Says (m .saying)) l tick
 says-ways l tick =
     record {
       unread = λ _. says-nothing;
-      opens = says-opened;
+      opens = λ rate h _. says-opened rate h;
       off-list = says-nothing;
       breaks = says-detected;
       beats = says-nothing;
       ends = λ code h _. says-ended code h;
       sets = λ rpc _. says-nothing;
+      powers = λ on _ _. says-powered on;
       fails = says-nothing;
       hands = λ count bytes h. says-handed count h;
     }

@@ -8,7 +8,7 @@ use lib.Dec.{ltb}
 use Rattle.link_state.specs.Link.{byPhase, heldOf}
 use Rattle.link_state.specs.Silence.{checked}
 use Rattle.link_state.specs.declared.Link.{Link}
-use Rattle.link_events.specs.Moves.{Saying, nothing, opened, handed, confirmed, failed, detected, refused}
+use Rattle.link_events.specs.Moves.{Saying, nothing, opened, handed, confirmed, failed, powered, detected, refused}
 use Rattle.link_claims.specs.Calls.{Call, pull, byte, poll, send, tickOf}
 use Rattle.link_claims.specs.Errors.{byByte, outOfPlace}
 use Rattle.link_claims.specs.Answered.{Answer}
@@ -27,6 +27,7 @@ endsOurs (opened rate) = false
 endsOurs (handed count) = false
 endsOurs confirmed = true
 endsOurs (failed code) = true
+endsOurs (powered on) = false
 endsOurs detected = false
 endsOurs (refused number) = false
 

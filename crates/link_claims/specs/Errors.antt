@@ -18,7 +18,7 @@ use Rattle.link_claims.specs.Refusals.{refusalOf}
 
 -- one of four by what a byte is after the silence and dead time checks: ignored, one more of a frame, the last of a frame, or wrong
 abbrev pub byByte : {A : Type 0} → Link → ℕ → A → A → A → A → A
-byByte l b ignored more whole wrong = cond (listens (l .phase) (l .dead)) (byReading (reading (heldOf l) b) more whole wrong) ignored
+byByte l b ignored more whole wrong = cond (listens (l .phase) (l .dead)) (byReading (reading (l .edition) (heldOf l) b) more whole wrong) ignored
 
 -- "Baud: .. Any other frame is a detected error." "Open: .. A baud frame is a detected error. A status frame .. with none outstanding .. is a detected error":
 -- a frame, all of it but the checksum, that is out of place
@@ -34,10 +34,10 @@ showsError l (poll tick buffer) = false
 showsError l (send bytes tick buffer) = false
 
 -- the link is fresh, and nothing is sent or handed over
-abbrev pub breaking : List ℕ → Step
-breaking buffer = record { link = fresh; saying = detected; lost = false; count = 0; bytes = padded []; buffer = buffer }
+abbrev pub breaking : ℕ → List ℕ → Step
+breaking edition buffer = record { link = fresh edition; saying = detected; lost = false; count = 0; bytes = padded []; buffer = buffer }
 
 -- a call that tells a detected error brought a byte that shows one and is the breaking step; and a call that brings one, and is not refused, is that step
 pub record ErrorsDetected : Type 0 where
-  pub told : (l : Link) (c : Call) → step l c .saying ≡ detected → (showsError l c ≡ true) × (step l c ≡ breaking (bufferOf c))
-  pub given : (l : Link) (c : Call) → refusalOf l c ≡ 0 → showsError l c ≡ true → step l c ≡ breaking (bufferOf c)
+  pub told : (l : Link) (c : Call) → step l c .saying ≡ detected → (showsError l c ≡ true) × (step l c ≡ breaking (l .edition) (bufferOf c))
+  pub given : (l : Link) (c : Call) → refusalOf l c ≡ 0 → showsError l c ≡ true → step l c ≡ breaking (l .edition) (bufferOf c)

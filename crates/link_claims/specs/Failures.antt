@@ -1,7 +1,7 @@
 -- "Start with RPC closed, stop with it open: status 0; the reverse: status 1, no change": what a frame that gets status 1 or 2 leaves as it was.
 use mathlib.Core.Path.{_≡_}
 use mathlib.Core.List.{List, []}
-use mathlib.Core.Bool.{false, cond}
+use mathlib.Core.Bool.{Bool, false, cond}
 use Prim.Native.Nat.{ℕ}
 use lib.ListN.{length, getD}
 use lib.Dec.{eqb}
@@ -18,13 +18,18 @@ use Rattle.link_claims.specs.Calls.{Call, pull, byte, poll, send, tickOf
 use Rattle.link_claims.specs.Refusals.{refusalOf}
 use Rattle.link_claims.specs.Errors.{byByte}
 
--- the status of a frame, all of it but the checksum, that fails, 0 for any other: in Baud "another [rate] gets status 2"; in Open start with RPC
--- open, stop with it closed, and "with RPC closed, status 1" for data
+-- the status of a control frame in Open: "Start with RPC closed, stop with it open: status 0; the reverse: status 1"; of the others, power on and off, "status 0
+-- with RPC closed"; "with RPC open, status 1"
+abbrev pub failedControl : Bool → ℕ → ℕ
+failedControl rpc code = cond (eqb code 0) (cond rpc 1 0) (cond (eqb code 1) (cond rpc 0 1) (cond rpc 1 0))
+
+-- the status of a frame, all of it but the checksum, that fails, 0 for any other: in Baud "another [rate] gets status 2"; in Open such a control frame,
+-- and "with RPC closed, status 1" for data
 unfoldable pub failure : Link → List ℕ → ℕ
 failure l bytes =
     byPhase (l .phase) 0
     (cond (eqb (getD bytes 0 0) baudType) (cond (onList (word bytes 1)) 0 2) 0)
-    (byType (getD bytes 0 0) 0 0 0 (cond (eqb (getD bytes 1 0) 0) (cond (l .rpc) 1 0) (cond (l .rpc) 0 1)) (cond (l .rpc) 0 1) 0)
+    (byType (getD bytes 0 0) 0 0 0 (failedControl (l .rpc) (getD bytes 1 0)) (cond (l .rpc) 0 1) 0)
 
 -- the status of the frame whose last byte the call brings
 unfoldable pub failureOf : Link → Call → ℕ
@@ -33,12 +38,25 @@ failureOf l (byte b tick buffer) = let l′ : Link = checked l tick in byByte l�
 failureOf l (poll tick buffer) = 0
 failureOf l (send bytes tick buffer) = 0
 
--- phase, rate, RPC and outstanding data are as they came, the frame is activity, the holder is renewed, and dead time is over; nothing is told or
+-- edition, power, phase, rate, RPC and outstanding data are as they came, the frame is activity, the holder is renewed, and dead time is over; nothing is told or
 -- handed over, and the status stands at the front of the buffer
 abbrev pub failing : ℕ → Link → ℕ → List ℕ → Step
 failing code l tick buffer =
     record {
-      link = record { phase = l .phase; rate = l .rate; last = tick; dead = false; rpc = l .rpc; outstanding = l .outstanding; held = 0; kind = 0; frame = atRest };
+      link =
+          record {
+            edition = l .edition;
+            power = l .power;
+            phase = l .phase;
+            rate = l .rate;
+            last = tick;
+            dead = false;
+            rpc = l .rpc;
+            outstanding = l .outstanding;
+            held = 0;
+            kind = 0;
+            frame = atRest;
+          };
       saying = nothing;
       lost = false;
       count = length (status code);

@@ -14,3 +14,7 @@ pub mod Silence
 pub mod DeadTime
 pub mod Delivers
 pub mod Worked
+pub mod Editions
+pub mod Same
+pub mod Power
+pub mod WorkedPower

@@ -13,16 +13,18 @@ pub data Read : Type 0 where
   frame : List ℕ → List ℕ → Read
   error : List ℕ → Read
 
-unfoldable pub readFrom : List ℕ → List ℕ → Read
-readFrom bytes [] = held bytes
-readFrom bytes (b ∷ bs) = byReading (reading bytes b) (readFrom (bytes ++ (b ∷ [])) bs) (frame bytes bs) (error bs)
+unfoldable pub readFrom : ℕ → List ℕ → List ℕ → Read
+readFrom edition bytes [] = held bytes
+readFrom edition bytes (b ∷ bs) = byReading (reading edition bytes b) (readFrom edition (bytes ++ (b ∷ [])) bs) (frame bytes bs) (error bs)
 
--- a frame, whatever follows it, is read for what it is: heartbeats, statuses and data of this end, and the rates and controls that it is sent;
+-- a frame, whatever follows it, is read for what it is, under any edition: heartbeats, statuses and data of this end, and the rates and controls that it is
+-- sent, those of power under the later one;
 -- a rate is read back from its frame
 pub record ReadsOwn : Type 0 where
-  pub heartbeats : (rest : List ℕ) → readFrom [] (heartbeat ++ rest) ≡ frame (heartbeatType ∷ []) rest
-  pub statuses : (code : ℕ) → code ≤ 2 → (rest : List ℕ) → readFrom [] (status code ++ rest) ≡ frame (statusType ∷ code ∷ []) rest
-  pub bauds : (rate : ℕ) (rest : List ℕ) → readFrom [] (baudRate rate ++ rest) ≡ frame (baudType ∷ bytesOf rate) rest
+  pub heartbeats : (edition : ℕ) (rest : List ℕ) → readFrom edition [] (heartbeat ++ rest) ≡ frame (heartbeatType ∷ []) rest
+  pub statuses : (edition code : ℕ) → code ≤ 2 → (rest : List ℕ) → readFrom edition [] (status code ++ rest) ≡ frame (statusType ∷ code ∷ []) rest
+  pub bauds : (edition rate : ℕ) (rest : List ℕ) → readFrom edition [] (baudRate rate ++ rest) ≡ frame (baudType ∷ bytesOf rate) rest
   pub rates : (rate : ℕ) → rate < 2 ^ 32 → word (baudType ∷ bytesOf rate) 1 ≡ rate
-  pub controls : (code : ℕ) → code ≤ 1 → (rest : List ℕ) → readFrom [] (control code ++ rest) ≡ frame (controlType ∷ code ∷ []) rest
-  pub data-frames : (bytes : List ℕ) → length bytes ≤ mostData → (rest : List ℕ) → readFrom [] (dataFrame bytes ++ rest) ≡ frame (dataType ∷ length bytes ∷ bytes) rest
+  pub controls : (edition code : ℕ) → code ≤ 1 → (rest : List ℕ) → readFrom edition [] (control code ++ rest) ≡ frame (controlType ∷ code ∷ []) rest
+  pub powers : (code : ℕ) → 2 ≤ code → code ≤ 3 → (rest : List ℕ) → readFrom 2 [] (control code ++ rest) ≡ frame (controlType ∷ code ∷ []) rest
+  pub data-frames : (edition : ℕ) (bytes : List ℕ) → length bytes ≤ mostData → (rest : List ℕ) → readFrom edition [] (dataFrame bytes ++ rest) ≡ frame (dataType ∷ length bytes ∷ bytes) rest

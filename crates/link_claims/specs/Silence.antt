@@ -29,8 +29,8 @@ pub record Refreshed (tick : ℕ) (l : Link) : Type 0 where
   pub empty : l .held ≡ 0
 
 -- the tick of the last active call of those from a fresh link on, read off the calls and the answers to them
-abbrev pub activeAt : List Call → Option ℕ
-activeAt calls = lastActive calls (answersTo fresh calls)
+abbrev pub activeAt : ℕ → List Call → Option ℕ
+activeAt edition calls = lastActive calls (answersTo (fresh edition) calls)
 
 -- there is such a tick, less than 250 ms before this one
 abbrev pub Recent : Option ℕ → ℕ → Type 0
@@ -49,21 +49,21 @@ pub record SilenceCountsFrames : Type 0 where
   -- and at nothing else does that tick move, but at a return to Start
   pub unmoved : (l : Link) (c : Call) → active c (answerOf (step l c)) ≡ false → Outside (step l c .link) → step l c .link .last ≡ l .last
   -- over every list of calls from a fresh link: outside Start it is the tick of the last active call
-  pub ticks : (calls : List Call) → Outside (after fresh calls) → activeAt calls ≡ some (after fresh calls .last)
+  pub ticks : (edition : ℕ) (calls : List Call) → Outside (after (fresh edition) calls) → activeAt edition calls ≡ some (after (fresh edition) calls .last)
   -- a call outside Start that is not refused tells a loss exactly where that tick was 250 ms or more before; in Start no call tells one
   pub loss-told :
-      (calls : List Call) (c : Call) (tick : ℕ) → Outside (after fresh calls) → activeAt calls ≡ some tick → refusalOf (after fresh calls) c ≡ 0
-      → step (after fresh calls) c .lost ≡ leb silenceTime (elapsed tick (tickOf c))
+      (edition : ℕ) (calls : List Call) (c : Call) (tick : ℕ) → Outside (after (fresh edition) calls) → activeAt edition calls ≡ some tick → refusalOf (after (fresh edition) calls) c ≡ 0
+      → step (after (fresh edition) calls) c .lost ≡ leb silenceTime (elapsed tick (tickOf c))
   pub none-lost : (l : Link) (c : Call) → l .phase ≡ Start → step l c .lost ≡ false
   -- no call returns to Start untold: it tells a loss or a detected error
   pub returns : (l : Link) (c : Call) → Outside l → step l c .link .phase ≡ Start → (step l c .lost ≡ true) ⊎ (step l c .saying ≡ detected)
   -- so a link that the silence check, which every call makes first, leaves outside Start, be the call refused or not, has had an active call less than
   -- 250 ms before this tick
-  pub alive-at : (calls : List Call) (tick : ℕ) → Outside (checked (after fresh calls) tick) → Recent (activeAt calls) tick
+  pub alive-at : (edition : ℕ) (calls : List Call) (tick : ℕ) → Outside (checked (after (fresh edition) calls) tick) → Recent (activeAt edition calls) tick
   -- and where a call that is not refused leaves the link outside Start, it is active itself, or an active one was less than 250 ms before it
   pub alive :
-      (calls : List Call) (c : Call) → refusalOf (after fresh calls) c ≡ 0 → Outside (step (after fresh calls) c .link)
-      → (active c (answerOf (step (after fresh calls) c)) ≡ true) ⊎ Recent (activeAt calls) (tickOf c)
+      (edition : ℕ) (calls : List Call) (c : Call) → refusalOf (after (fresh edition) calls) c ≡ 0 → Outside (step (after (fresh edition) calls) c .link)
+      → (active c (answerOf (step (after (fresh edition) calls) c)) ≡ true) ⊎ Recent (activeAt edition calls) (tickOf c)
   -- "A frame still unfinished at 250 ms is lost with the link": whatever is held, a call that finds the link lost and is not refused is that of a fresh
   -- link, and tells the loss; a send is refused then, with 10
-  pub unfinished : (l : Link) (c : Call) → refusalOf l c ≡ 0 → lost (l .phase) (l .last) (tickOf c) ≡ true → step l c ≡ losing (step fresh c)
+  pub unfinished : (l : Link) (c : Call) → refusalOf l c ≡ 0 → lost (l .phase) (l .last) (tickOf c) ≡ true → step l c ≡ losing (step (fresh (l .edition)) c)

@@ -1,4 +1,6 @@
 // What the link makes of a whole frame, all of it but the checksum held.
+mod power;
+
 use link_events::Event;
 use link_events::NO_DATA;
 use link_events::Reply;
@@ -12,13 +14,13 @@ use link_state::Phase;
 ghost use mathlib.Core.Path.{_≡_};
 ghost use lib.ListN.{drop, getD};
 ghost use Rattle.link_events.specs.Moves.{said, ended, moved};
-ghost use Rattle.link_effects.specs.Whole.{baudFrame, statusFrame, controlFrame, takenData, openFrame};
+ghost use Rattle.link_effects.specs.Whole.{baudFrame, statusFrame, startFrame, stopFrame, controlFrame, takenData, openFrame};
 
 // A whole frame while the rate is agreed on.
 pub fn baud_frame(link: Link, kind: u8, rate: u32, tick: u32) -> Turn
     ensures { λ r. ⌜ moved r ≡ baudFrame link kind rate tick ⌝ }
 {
-    let opened = link_state::enter(Phase::Open, rate, tick, true);
+    let opened = link_state::enter(link.edition, Phase::Open, rate, tick, true);
     if kind == link_frames::BAUD {
         if link_state::on_list(rate) {
             return Turn {
@@ -30,7 +32,7 @@ pub fn baud_frame(link: Link, kind: u8, rate: u32, tick: u32) -> Turn
         }
         return reply_with(link, Reply::Status(2));
     }
-    break_off()
+    break_off(link)
 }
 
 // How data that we sent has ended.
@@ -59,26 +61,42 @@ fn status_frame(link: Link, code: u8) -> Turn
             bytes: NO_DATA,
         };
     }
-    break_off()
+    break_off(link)
 }
 
-// A start or a stop of RPC.
-fn control_frame(link: Link, code: u8) -> Turn
-    ensures { λ r. ⌜ moved r ≡ controlFrame link code ⌝ }
+// A start of RPC.
+fn start_frame(link: Link) -> Turn
+    ensures { λ r. ⌜ moved r ≡ startFrame link ⌝ }
 {
-    let mut next = link;
-    if code == 0 {
-        if link.rpc {
-            return reply_with(link, Reply::Status(1));
-        }
-        next.rpc = true;
-        return reply_with(next, Reply::Status(0));
-    }
     if link.rpc {
+        return reply_with(link, Reply::Status(1));
+    }
+    let mut next = link;
+    next.rpc = true;
+    reply_with(next, Reply::Status(0))
+}
+
+// A stop of RPC; data that is outstanding stays so.
+fn stop_frame(link: Link) -> Turn
+    ensures { λ r. ⌜ moved r ≡ stopFrame link ⌝ }
+{
+    if link.rpc {
+        let mut next = link;
         next.rpc = false;
         return reply_with(next, Reply::Status(0));
     }
     reply_with(link, Reply::Status(1))
+}
+
+// A start or a stop of RPC, or power on or off, which no good frame of the first edition is.
+fn control_frame(link: Link, code: u8) -> Turn
+    ensures { λ r. ⌜ moved r ≡ controlFrame link code ⌝ }
+{
+    match code {
+        0 => start_frame(link),
+        1 => stop_frame(link),
+        _ => power::power_frame(link, code == link_frames::POWER_ON),
+    }
 }
 
 // Data: `count` bytes, zeros behind them.
@@ -104,9 +122,9 @@ pub fn open_frame(link: Link, kind: u8, frame: &Holder) -> Turn
     match kind {
         link_frames::HEARTBEAT => reply_with(link, Reply::Heartbeat),
         link_frames::STATUS => status_frame(link, frame[0]),
-        link_frames::BAUD => break_off(),
+        link_frames::BAUD => break_off(link),
         link_frames::CONTROL => control_frame(link, frame[0]),
         link_frames::DATA => data_frame(link, frame[0], link_frames::contents(frame)),
-        _ => break_off(),
+        _ => break_off(link),
     }
 }

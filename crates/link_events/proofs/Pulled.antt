@@ -17,11 +17,11 @@ by-waiting a b Baud = refl
 by-waiting a b Open = refl
 
 module _ (l : Link) (tick : ℕ) where
-  by-test : cond (byPhase (l .phase) true false false) (answers (inBaud tick) heartbeat) (quiet l) ≡ pulled l tick
+  by-test : cond (byPhase (l .phase) true false false) (answers (inBaud (l .edition) tick) heartbeat) (quiet l) ≡ pulled l tick
   unfolding pulled
   by-test = by-waiting _ _ (l .phase)
 
-  pub pulled-waiting : byPhase (l .phase) true false false ≡ true → answers (inBaud tick) heartbeat ≡ pulled l tick
+  pub pulled-waiting : byPhase (l .phase) true false false ≡ true → answers (inBaud (l .edition) tick) heartbeat ≡ pulled l tick
   pulled-waiting e = sym (cond-true _ _ _ e) ∙ by-test
 
   pub pulled-ignored : byPhase (l .phase) true false false ≡ false → quiet l ≡ pulled l tick

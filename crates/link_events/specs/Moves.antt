@@ -1,6 +1,6 @@
 -- What an event makes of the link, and what each case of an answer says in the paper's numbers and values.
 use mathlib.Core.List.{List, [], _++_}
-use mathlib.Core.Bool.{cond}
+use mathlib.Core.Bool.{Bool, cond}
 use Prim.Native.Nat.{ℕ, _-_}
 use lib.ListN.{length, replicate}
 use lib.Dec.{eqb}
@@ -20,6 +20,7 @@ pub data Saying : Type 0 where
   handed : ℕ → Saying
   confirmed : Saying
   failed : ℕ → Saying
+  powered : Bool → Saying
   detected : Saying
   refused : ℕ → Saying
 
@@ -30,6 +31,7 @@ said (event.Opened rate) = opened rate
 said (event.Handed count) = handed count
 said event.Confirmed = confirmed
 said (event.Failed code) = failed code
+said (event.Powered on) = powered on
 said event.DetectedError = detected
 said (event.Refused number) = refused number
 

@@ -20,13 +20,13 @@ answers l bytes = move l nothing bytes (padded [])
 abbrev pub tells : Link → Saying → Move
 tells l saying = move l saying [] (padded [])
 
--- "a detected error at the byte that shows it: back to Start, nothing sent"
-abbrev pub broken : Move
-broken = tells fresh detected
+-- "a detected error at the byte that shows it: back to Start, nothing sent"; "Power is off at Start, a return to Start included"
+abbrev pub broken : ℕ → Move
+broken edition = tells (fresh edition) detected
 
 -- "Start: .. A pulled line sends 01 01 and enters Baud; in other phases a pull is ignored."
 unfoldable pub pulled : Link → ℕ → Move
-pulled l tick = byPhase (l .phase) (answers (inBaud tick) heartbeat) (quiet l) (quiet l)
+pulled l tick = byPhase (l .phase) (answers (inBaud (l .edition) tick) heartbeat) (quiet l) (quiet l)
 
 -- Start: "bytes are ignored"; dead time: "bytes less than 25 ms after that frame are ignored"
 unfoldable pub listens : Phase → Bool → Bool

@@ -24,8 +24,11 @@ pub enum Event {
     // The other end has not taken our outstanding data: this is its status, 1 or 2. Nothing is outstanding any more: while
     // RPC is open, send the data again, or give it up.
     Failed(u8),
-    // What came is no good frame, or one out of place. The link is in Start: nothing is sent, the line goes back to 9600, outstanding
-    // data is gone, and the other end has to pull the line again.
+    // The module has asked for the 5 V, true, or no longer needs them, false; told too where they are so already. Switch them, then let
+    // the reply go out, which confirms it. They stay so until the next such event, a loss or a detected error.
+    Powered(bool),
+    // What came is no good frame, or one out of place. The link is in Start: nothing is sent, the line goes back to 9600, the 5 V are
+    // switched off if they are on, outstanding data is gone, and the other end has to pull the line again.
     DetectedError,
     // The call did nothing, for the reason of this number; the record comes back as it was, nothing is sent, and a byte is not taken.
     // 5: the record is none that a call gave, start with a new one; 8: the answer buffer is under 67 bytes; and only for a send,
@@ -76,12 +79,13 @@ pub fn reply_with(link: Link, answer: Reply) -> Turn
     }
 }
 
-// A detected error.
-pub fn break_off() -> Turn
-    ensures { λ r. ⌜ moved r ≡ broken ⌝ }
+// A detected error: nothing of the record stays but the edition.
+pub fn break_off(link: Link) -> Turn
+    ensures { λ r. ⌜ moved r ≡ broken (link .edition) ⌝ }
 {
+    let next = link_state::restart(link.edition);
     Turn {
-        link: link_state::new(),
+        link: next,
         event: Event::DetectedError,
         reply: Reply::Nothing,
         bytes: NO_DATA,
@@ -106,7 +110,13 @@ pub fn pull_line(link: Link, tick: u32) -> Turn
     let phase = link.phase;
     if is_waiting(phase) {
         return reply_with(
-            link_state::enter(Phase::Baud, link_state::FIRST_RATE, tick, false),
+            link_state::enter(
+                link.edition,
+                Phase::Baud,
+                link_state::FIRST_RATE,
+                tick,
+                false,
+            ),
             Reply::Heartbeat,
         );
     }

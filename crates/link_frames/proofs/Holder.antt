@@ -56,15 +56,15 @@ zero-later (suc n) [] h = h
 zero-later (suc n) (x ∷ xs) h = zero-later n xs h
 
 -- ---- what the numbers tell of the bytes held
-module _ (n x : ℕ) (xs : List ℕ) (l : length xs ≡ mostContents) (h : n ≤ mostHeld) (z : allAre 0 (drop n (x ∷ xs)) ≡ true) where
+module _ (edition n x : ℕ) (xs : List ℕ) (l : length xs ≡ mostContents) (h : n ≤ mostHeld) (z : allAre 0 (drop n (x ∷ xs)) ≡ true) where
   held-count : length (take n (x ∷ xs)) ≡ n
   held-count = length-take-le n (x ∷ xs) (omega arith)
 
-  pub begins-held : goodStart (take n (x ∷ xs)) ≡ begins n x (getD xs 0 0)
+  pub begins-held : goodStart edition (take n (x ∷ xs)) ≡ begins edition n x (getD xs 0 0)
   unfolding goodStart
   begins-held = rw (held-count, zero-at n (x ∷ xs) 0 z, zero-at n (x ∷ xs) 1 z)
 
-  pub lacks-held : allButSum (take n (x ∷ xs)) ≡ lacksSum n x (getD xs 0 0)
+  pub lacks-held : allButSum edition (take n (x ∷ xs)) ≡ lacksSum edition n x (getD xs 0 0)
   unfolding allButSum
   lacks-held = rw (held-count, zero-at n (x ∷ xs) 0 z, zero-at n (x ∷ xs) 1 z)
 

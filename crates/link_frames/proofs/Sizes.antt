@@ -6,13 +6,14 @@ use native.Mathlib.Omega.{arith}
 use lib.Dec.{eqb, leb, eqb·suc-zero}
 use borrow.Author.Tests.{eqb-true, eqb-false, leb-true}
 use Rattle.lists.proofs.Tests.{absurd-test, both}
+use Rattle.link_frames.specs.Editions.{mostControl}
 use Rattle.link_frames.specs.Frames.{mostData, mostHeld, heartbeatType, statusType, baudType, controlType, dataType, known, size}
 use Rattle.link_frames.specs.Reading.{begins, lacksSum}
 
-size-bounds : (type code : ℕ) → known type code ≡ true → (1 ≤ size type code) × (size type code ≤ mostHeld)
+size-bounds : (edition type code : ℕ) → known edition type code ≡ true → (1 ≤ size type code) × (size type code ≤ mostHeld)
 unfolding known size
-size-bounds type code = by-type (eqb type heartbeatType) (eqb type statusType) (eqb type baudType) (eqb type controlType) (eqb type dataType) where
-  by-type : (a b c d e : Bool) → cond a true (cond b (leb code 2) (cond c true (cond d (leb code 1) (cond e (leb code mostData) false)))) ≡ true
+size-bounds edition type code = by-type (eqb type heartbeatType) (eqb type statusType) (eqb type baudType) (eqb type controlType) (eqb type dataType) where
+  by-type : (a b c d e : Bool) → cond a true (cond b (leb code 2) (cond c true (cond d (leb code (mostControl edition)) (cond e (leb code mostData) false)))) ≡ true
       → (1 ≤ cond a 1 (cond b 2 (cond c 5 (cond d 2 (cond e (code + 2) 0))))) × (cond a 1 (cond b 2 (cond c 5 (cond d 2 (cond e (code + 2) 0)))) ≤ mostHeld)
   by-type true b c d e h = (omega arith, omega arith)
   by-type false true c d e h = (omega arith, omega arith)
@@ -21,22 +22,22 @@ size-bounds type code = by-type (eqb type heartbeatType) (eqb type statusType) (
   by-type false false false false true h = (omega arith, omega (arith, leb-true code mostData h))
   by-type false false false false false h = absurd-test h
 
-pub lacks-bounds : (n type code : ℕ) → lacksSum n type code ≡ true → (1 ≤ n) × (n ≤ mostHeld)
+pub lacks-bounds : (edition n type code : ℕ) → lacksSum edition n type code ≡ true → (1 ≤ n) × (n ≤ mostHeld)
 unfolding lacksSum
-lacks-bounds n type code e =
-    let a = both (known type code) (eqb n (size type code)) e in
-    let b = size-bounds type code (a .0) in
+lacks-bounds edition n type code e =
+    let a = both (known edition type code) (eqb n (size type code)) e in
+    let b = size-bounds edition type code (a .0) in
     let q : n ≡ size type code = eqb-true n (size type code) (a .1) in
     (omega arith, omega arith)
 
 -- bytes that begin a longer frame and lack more than its checksum
-pub begun : (n type code : ℕ) → begins n type code ≡ true → lacksSum n type code ≡ false → n < mostHeld
+pub begun : (edition n type code : ℕ) → begins edition n type code ≡ true → lacksSum edition n type code ≡ false → n < mostHeld
 unfolding begins lacksSum
-begun zero type code e f = omega arith
-begun (suc n) type code e f = by-known (known type code) refl (rw eqb·suc-zero at e) f where
-  by-known : (k : Bool) → known type code ≡ k → (k && leb (suc n) (size type code)) ≡ true → (k && eqb (suc n) (size type code)) ≡ false → suc n < mostHeld
+begun edition zero type code e f = omega arith
+begun edition (suc n) type code e f = by-known (known edition type code) refl (rw eqb·suc-zero at e) f where
+  by-known : (k : Bool) → known edition type code ≡ k → (k && leb (suc n) (size type code)) ≡ true → (k && eqb (suc n) (size type code)) ≡ false → suc n < mostHeld
   by-known true q g h =
       let a : suc n ≤ size type code = leb-true (suc n) (size type code) g in
       let b : suc n ≡ size type code → ⊥ = eqb-false (suc n) (size type code) h in
-      omega (arith, size-bounds type code q .1)
+      omega (arith, size-bounds edition type code q .1)
   by-known false q g h = absurd-test g

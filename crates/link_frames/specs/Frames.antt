@@ -6,6 +6,7 @@ use lib.ListN.{length}
 use lib.Dec.{leb, eqb}
 use Rattle.fields.specs.Words.{bytesOf}
 use Rattle.fields.specs.Checksum.{xored}
+use Rattle.link_frames.specs.Editions.{mostControl}
 
 -- "Contents are at most 65 bytes"; of data "size 0 to 64 and that many bytes"
 abbrev pub mostContents : ℕ
@@ -44,9 +45,9 @@ byType type heartbeat status baud control bytes none =
     (cond (eqb type dataType) bytes none))))
 
 -- "01 heartbeat, none; 02 status, one byte 0 to 2; 03 baud, four bytes, least first (house, the source gives no order); 04 control, 0 start or 1 stop RPC; 05 data, size 0 to 64 and that many bytes":
--- whether a type is one of these and the first byte of its contents is allowed; where that byte is yet to come it counts as 0
-unfoldable pub known : ℕ → ℕ → Bool
-known type first = byType type true (leb first 2) true (leb first 1) (leb first mostData) false
+-- whether a type is one of these and the first byte of its contents is allowed, a control code by the edition; where that byte is yet to come it counts as 0
+unfoldable pub known : ℕ → ℕ → ℕ → Bool
+known edition type first = byType type true (leb first 2) true (leb first (mostControl edition)) (leb first mostData) false
 
 -- how many bytes stand before the checksum, the type among them
 unfoldable pub size : ℕ → ℕ → ℕ

@@ -1,3 +1,4 @@
+pub mod Editions
 pub mod Frames
 pub mod Reading
 pub mod Writing

@@ -1,4 +1,10 @@
-// Frames of the expansion protocol: how they are read byte by byte, and how they are written.
+// Frames of the expansion protocol: how they are read byte by byte, by the edition, and how they are written.
+mod editions;
+
+pub use editions::FIRST_EDITION;
+pub use editions::LATER_EDITION;
+pub use editions::POWER_ON;
+pub use editions::is_edition;
 ghost use mathlib.Core.Path.{_≡_};
 ghost use mathlib.Core.List.{_∷_};
 ghost use lib.ListN.{drop};
@@ -33,15 +39,15 @@ pub type Holder = [u8; MOST_CONTENTS];
 
 pub type Payload = [u8; MOST_DATA];
 
-// Whether a type is one of the five, with a first byte that it allows.
-fn is_known(kind: u8, first: u8) -> bool
-    ensures { λ r. ⌜ r ≡ known kind first ⌝ }
+// Whether a type is one of the five, with a first byte that it allows: a control code by the edition.
+fn is_known(edition: u8, kind: u8, first: u8) -> bool
+    ensures { λ r. ⌜ r ≡ known edition kind first ⌝ }
 {
     match kind {
         HEARTBEAT => true,
         STATUS => first <= 2,
         BAUD => true,
-        CONTROL => first <= 1,
+        CONTROL => first <= editions::most_control(edition),
         DATA => first as usize <= MOST_DATA,
         _ => false,
     }
@@ -62,17 +68,17 @@ fn size_of(kind: u8, first: u8) -> usize
 }
 
 // Whether so many bytes begin a good frame that is longer than they are.
-pub fn is_begun(count: usize, kind: u8, first: u8) -> bool
-    ensures { λ r. ⌜ r ≡ begins count kind first ⌝ }
+pub fn is_begun(edition: u8, count: usize, kind: u8, first: u8) -> bool
+    ensures { λ r. ⌜ r ≡ begins edition count kind first ⌝ }
 {
-    (count == 0) | (is_known(kind, first) & (count <= size_of(kind, first)))
+    (count == 0) | (is_known(edition, kind, first) & (count <= size_of(kind, first)))
 }
 
 // Whether they are all of a good frame but its checksum.
-pub fn lacks_sum(count: usize, kind: u8, first: u8) -> bool
-    ensures { λ r. ⌜ r ≡ lacksSum count kind first ⌝ }
+pub fn lacks_sum(edition: u8, count: usize, kind: u8, first: u8) -> bool
+    ensures { λ r. ⌜ r ≡ lacksSum edition count kind first ⌝ }
 {
-    is_known(kind, first) & (count == size_of(kind, first))
+    is_known(edition, kind, first) & (count == size_of(kind, first))
 }
 
 // Whether the bytes behind those held are zero; the type byte counts as the first of them.

@@ -20,45 +20,45 @@ use Rattle.link_refusals.specs.Refusals.{shortestBuffer, checks, sendChe
 use Rattle.link_state.specs.declared.Link.{Link}
 
 -- ---- what is held
-pub record Held (n x : ℕ) (xs : List ℕ) : Type 0 where
+pub record Held (edition n x : ℕ) (xs : List ℕ) : Type 0 where
   pub most : n ≤ mostHeld
   pub zeros : allAre 0 (drop n (x ∷ xs)) ≡ true
-  pub start : goodStart (take n (x ∷ xs)) ≡ true
+  pub start : goodStart edition (take n (x ∷ xs)) ≡ true
 
-pub held-good : (n x : ℕ) (xs : List ℕ) → holderGood n (x ∷ xs) ≡ true → Held n x xs
+pub held-good : (edition n x : ℕ) (xs : List ℕ) → holderGood edition n (x ∷ xs) ≡ true → Held edition n x xs
 unfolding holderGood
-held-good n x xs e =
-    let a = both (leb n mostHeld) (allAre 0 (drop n (x ∷ xs)) && goodStart (take n (x ∷ xs))) e in
-    let b = both (allAre 0 (drop n (x ∷ xs))) (goodStart (take n (x ∷ xs))) (a .1) in
+held-good edition n x xs e =
+    let a = both (leb n mostHeld) (allAre 0 (drop n (x ∷ xs)) && goodStart edition (take n (x ∷ xs))) e in
+    let b = both (allAre 0 (drop n (x ∷ xs))) (goodStart edition (take n (x ∷ xs))) (a .1) in
     record { most = leb-true n mostHeld (a .0); zeros = b .0; start = b .1 }
 
-module _ (n x : ℕ) (xs : List ℕ) where
-  pub holder-long : mostHeld < n → false ≡ holderGood n (x ∷ xs)
+module _ (edition n x : ℕ) (xs : List ℕ) where
+  pub holder-long : mostHeld < n → false ≡ holderGood edition n (x ∷ xs)
   unfolding holderGood
   holder-long h = rw (lt-leb n mostHeld h)
 
-  pub holder-behind : n ≤ mostHeld → allAre 0 (drop n (x ∷ xs)) ≡ false → false ≡ holderGood n (x ∷ xs)
+  pub holder-behind : n ≤ mostHeld → allAre 0 (drop n (x ∷ xs)) ≡ false → false ≡ holderGood edition n (x ∷ xs)
   unfolding holderGood
   holder-behind h z = rw (le-leb n mostHeld h, z)
 
-  pub holder-begins : length xs ≡ mostContents → n ≤ mostHeld → allAre 0 (drop n (x ∷ xs)) ≡ true → begins n x (getD xs 0 0) ≡ holderGood n (x ∷ xs)
+  pub holder-begins : length xs ≡ mostContents → n ≤ mostHeld → allAre 0 (drop n (x ∷ xs)) ≡ true → begins edition n x (getD xs 0 0) ≡ holderGood edition n (x ∷ xs)
   unfolding holderGood
-  holder-begins l h z = rw (le-leb n mostHeld h, z) (sym (begins-held n x xs l h z))
+  holder-begins l h z = rw (le-leb n mostHeld h, z) (sym (begins-held edition n x xs l h z))
 
 -- ---- the holder after the silence and dead time checks
-sound-holder : (l : Link) → sound l ≡ true → holderGood (l .held) (store l) ≡ true
+sound-holder : (l : Link) → sound l ≡ true → holderGood (l .edition) (l .held) (store l) ≡ true
 unfolding sound
-sound-holder l e = both (holderGood (l .held) (store l)) _ e .0
+sound-holder l e = both (holderGood (l .edition) (l .held) (store l)) _ e .0
 
-fresh-holder : holderGood (fresh .held) (store fresh) ≡ true
+fresh-holder : (edition : ℕ) → holderGood (fresh edition .edition) (fresh edition .held) (store (fresh edition)) ≡ true
 unfolding fresh holderGood goodStart begins allAre
-fresh-holder = refl
+fresh-holder edition = refl
 
-pub checked-holder : (l : Link) (tick : ℕ) → sound l ≡ true → holderGood (checked l tick .held) (store (checked l tick)) ≡ true
+pub checked-holder : (l : Link) (tick : ℕ) → sound l ≡ true → holderGood (checked l tick .edition) (checked l tick .held) (store (checked l tick)) ≡ true
 unfolding checked
 checked-holder l tick e = by-test (lost (l .phase) (l .last) tick) (stillDead (l .dead) (l .last) tick) where
-  by-test : (t d : Bool) → holderGood (cond t fresh (withDead l d) .held) (store (cond t fresh (withDead l d))) ≡ true
-  by-test true d = fresh-holder
+  by-test : (t d : Bool) → holderGood (cond t (fresh (l .edition)) (withDead l d) .edition) (cond t (fresh (l .edition)) (withDead l d) .held) (store (cond t (fresh (l .edition)) (withDead l d))) ≡ true
+  by-test true d = fresh-holder (l .edition)
   by-test false d = sound-holder l e
 
 -- ---- calls that are not refused

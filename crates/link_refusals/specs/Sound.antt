@@ -1,11 +1,12 @@
 -- "5 first (held bytes that begin no longer good frame, nonzero bytes behind them, a rate off the list; outside Open dead time, RPC open,
 -- data outstanding or a rate not 9600; in Start a held byte)": the records that refusal 5 lets pass.
 use mathlib.Core.List.{List}
-use mathlib.Core.Bool.{Bool, true, not, _&&_}
+use mathlib.Core.Bool.{Bool, true, false, not, _&&_, _||_}
 use Prim.Native.Nat.{ℕ}
 use lib.ListN.{take, drop}
 use lib.Dec.{leb, eqb}
 use Rattle.lists.specs.Bytes.{allAre}
+use Rattle.link_frames.specs.Editions.{laterEdition, isEdition}
 use Rattle.link_frames.specs.Frames.{mostHeld}
 use Rattle.link_frames.specs.Reading.{goodStart}
 use Rattle.link_state.specs.Link.{byPhase, store, firstRate}
@@ -22,10 +23,15 @@ fitsPhase phase dead rpc outstanding rate held =
     true
 
 -- "held bytes that begin no longer good frame, nonzero bytes behind them"
-unfoldable pub holderGood : ℕ → List ℕ → Bool
-holderGood held bytes = leb held mostHeld && (allAre 0 (drop held bytes) && goodStart (take held bytes))
+unfoldable pub holderGood : ℕ → ℕ → List ℕ → Bool
+holderGood edition held bytes = leb held mostHeld && (allAre 0 (drop held bytes) && goodStart edition (take held bytes))
+
+-- "5 also for a record with such an edition, or with power on outside Open or under the first" (document 02, Eight)
+unfoldable pub fitsEdition : ℕ → Bool → Phase → Bool
+fitsEdition edition power phase = isEdition edition && (not power || (eqb edition laterEdition && byPhase phase false false true))
 
 unfoldable pub sound : Link → Bool
 sound l =
-    holderGood (l .held) (store l)
-    && (onList (l .rate) && fitsPhase (l .phase) (l .dead) (l .rpc) (l .outstanding) (l .rate) (l .held))
+    holderGood (l .edition) (l .held) (store l)
+    && (onList (l .rate)
+    && (fitsPhase (l .phase) (l .dead) (l .rpc) (l .outstanding) (l .rate) (l .held) && fitsEdition (l .edition) (l .power) (l .phase)))

@@ -9,7 +9,7 @@ ghost use mathlib.Core.Bool.{true, false, cond};
 ghost use lib.Dec.{leb};
 ghost use Rattle.lists.specs.Checks.{first};
 ghost use Rattle.link_state.specs.Link.{byPhase};
-ghost use Rattle.link_refusals.specs.Sound.{fitsPhase, holderGood, sound};
+ghost use Rattle.link_refusals.specs.Sound.{fitsPhase, fitsEdition, holderGood, sound};
 ghost use Rattle.link_refusals.specs.Refusals.{shortestBuffer, checks, sendChecks};
 
 // Whether the rest of a record goes with its phase.
@@ -30,13 +30,21 @@ fn fits_phase(
     }
 }
 
+// Whether a record's edition is one, and power is on only under the later one, in Open.
+fn fits_edition(edition: u8, power: bool, phase: Phase) -> bool
+    ensures { λ r. ⌜ r ≡ fitsEdition edition power phase ⌝ }
+{
+    link_frames::is_edition(edition)
+        & (!power | ((edition == link_frames::LATER_EDITION) & is_open(phase)))
+}
+
 // Whether what is held begins a longer good frame, with zeros behind it.
-fn holder_good(held: usize, kind: u8, frame: &Holder) -> bool
-    ensures { λ r. ⌜ r ≡ holderGood held (kind ∷ now (frame .entry)) ⌝ }
+fn holder_good(edition: u8, held: usize, kind: u8, frame: &Holder) -> bool
+    ensures { λ r. ⌜ r ≡ holderGood edition held (kind ∷ now (frame .entry)) ⌝ }
 {
     if held <= link_frames::MOST_HELD {
         if link_frames::zero_behind(held, kind, frame) {
-            return link_frames::is_begun(held, kind, frame[0]);
+            return link_frames::is_begun(edition, held, kind, frame[0]);
         }
     }
     false
@@ -47,16 +55,17 @@ pub fn is_sound(link: Link) -> bool
     ensures { λ r. ⌜ r ≡ sound link ⌝ }
 {
     let phase = link.phase;
-    holder_good(link.held, link.kind, &link.frame)
+    holder_good(link.edition, link.held, link.kind, &link.frame)
         & (link_state::on_list(link.rate)
-            & fits_phase(
+            & (fits_phase(
                 phase,
                 link.dead,
                 link.rpc,
                 link.outstanding,
                 link.rate,
                 link.held,
-            ))
+            )
+                & fits_edition(link.edition, link.power, phase)))
 }
 
 // Refusal 8: the buffer has no space for the longest frame.

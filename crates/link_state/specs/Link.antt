@@ -27,36 +27,38 @@ heldOf l = take (l .held) (store l)
 abbrev pub atRest : List ℕ
 atRest = replicate mostContents 0
 
--- a record at the start of a phase: RPC closed, nothing outstanding, nothing held
-abbrev pub entering : Phase → ℕ → ℕ → Bool → Link
-entering phase rate last dead =
-    record { phase = phase; rate = rate; last = last; dead = dead; rpc = false; outstanding = false; held = 0; kind = 0; frame = atRest }
+-- a record at the start of a phase: power off, RPC closed, nothing outstanding, nothing held
+abbrev pub entering : ℕ → Phase → ℕ → ℕ → Bool → Link
+entering edition phase rate last dead =
+    record { edition = edition; power = false; phase = phase; rate = rate; last = last; dead = dead; rpc = false; outstanding = false; held = 0; kind = 0; frame = atRest }
 
 -- "The initial connection SHALL always happen at 9600 baud" (000).
 abbrev pub firstRate : ℕ
 firstRate = 9600
 
--- A return to Start gives the fresh record too.
-unfoldable pub fresh : Link
-fresh = entering Start firstRate 0 false
+-- A return to Start gives the fresh record of the edition: "Power is off at Start, a return to Start included" (document 02, Eight).
+unfoldable pub fresh : ℕ → Link
+fresh edition = entering edition Start firstRate 0 false
 
 -- "sends 01 01 and enters Baud": this is activity
-unfoldable pub inBaud : ℕ → Link
-inBaud tick = entering Baud firstRate tick false
+unfoldable pub inBaud : ℕ → ℕ → Link
+inBaud edition tick = entering edition Baud firstRate tick false
 
 -- "enters Open at that rate", with dead time running: the baud frame is activity
-unfoldable pub inOpen : ℕ → ℕ → Link
-inOpen rate tick = entering Open rate tick true
+unfoldable pub inOpen : ℕ → ℕ → ℕ → Link
+inOpen edition rate tick = entering edition Open rate tick true
 
 -- the record after a whole frame, which is activity: the holder is renewed
 unfoldable pub renewed : Link → ℕ → Link
 renewed l tick =
-    record { phase = l .phase; rate = l .rate; last = tick; dead = l .dead; rpc = l .rpc; outstanding = l .outstanding; held = 0; kind = 0; frame = atRest }
+    record { edition = l .edition; power = l .power; phase = l .phase; rate = l .rate; last = tick; dead = l .dead; rpc = l .rpc; outstanding = l .outstanding; held = 0; kind = 0; frame = atRest }
 
 -- the record with one byte more held; this is no activity
 unfoldable pub kept : Link → ℕ → Link
 kept l byte =
     record {
+      edition = l .edition;
+      power = l .power;
       phase = l .phase;
       rate = l .rate;
       last = l .last;
@@ -71,12 +73,16 @@ kept l byte =
 -- the record with one of its flags set anew
 abbrev pub withRpc : Link → Bool → Link
 withRpc l rpc =
-    record { phase = l .phase; rate = l .rate; last = l .last; dead = l .dead; rpc = rpc; outstanding = l .outstanding; held = l .held; kind = l .kind; frame = l .frame }
+    record { edition = l .edition; power = l .power; phase = l .phase; rate = l .rate; last = l .last; dead = l .dead; rpc = rpc; outstanding = l .outstanding; held = l .held; kind = l .kind; frame = l .frame }
 
 abbrev pub withOutstanding : Link → Bool → Link
 withOutstanding l outstanding =
-    record { phase = l .phase; rate = l .rate; last = l .last; dead = l .dead; rpc = l .rpc; outstanding = outstanding; held = l .held; kind = l .kind; frame = l .frame }
+    record { edition = l .edition; power = l .power; phase = l .phase; rate = l .rate; last = l .last; dead = l .dead; rpc = l .rpc; outstanding = outstanding; held = l .held; kind = l .kind; frame = l .frame }
 
 abbrev pub withDead : Link → Bool → Link
 withDead l dead =
-    record { phase = l .phase; rate = l .rate; last = l .last; dead = dead; rpc = l .rpc; outstanding = l .outstanding; held = l .held; kind = l .kind; frame = l .frame }
+    record { edition = l .edition; power = l .power; phase = l .phase; rate = l .rate; last = l .last; dead = dead; rpc = l .rpc; outstanding = l .outstanding; held = l .held; kind = l .kind; frame = l .frame }
+
+abbrev pub withPower : Link → Bool → Link
+withPower l power =
+    record { edition = l .edition; power = power; phase = l .phase; rate = l .rate; last = l .last; dead = l .dead; rpc = l .rpc; outstanding = l .outstanding; held = l .held; kind = l .kind; frame = l .frame }

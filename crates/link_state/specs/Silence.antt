@@ -11,4 +11,4 @@ lost phase last tick = byPhase phase false (silence last tick) (silence last tic
 
 -- the record after the silence and dead time checks
 unfoldable pub checked : Link → ℕ → Link
-checked l tick = cond (lost (l .phase) (l .last) tick) fresh (withDead l (stillDead (l .dead) (l .last) tick))
+checked l tick = cond (lost (l .phase) (l .last) tick) (fresh (l .edition)) (withDead l (stillDead (l .dead) (l .last) tick))

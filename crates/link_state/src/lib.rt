@@ -4,11 +4,15 @@ mod clock;
 use link_frames::Holder;
 ghost use mathlib.Core.Path.{_≡_};
 ghost use Rattle.link_state.specs.Link.{entering, fresh, renewed};
+ghost use Rattle.link_state.specs.Opening.{opening};
 ghost use Rattle.link_state.specs.Silence.{lost, checked};
 ghost use Rattle.link_state.specs.Rates.{onList};
 
 // The rate of a connection until another is agreed on, and of the line in Start and Baud.
 pub const FIRST_RATE: u32 = 9600;
+
+// The refusal of an edition other than 1 or 2.
+const UNKNOWN_EDITION: u8 = 18;
 
 // The phases of a connection. The caller keeps the line at 9600 but in Open.
 pub enum Phase {
@@ -22,6 +26,11 @@ pub enum Phase {
 
 // The link's record. A caller makes it with `new`, hands it to each call and keeps the one that comes back; it sets no field itself.
 pub struct Link {
+    // What the link was opened for: 1, the first edition of the protocol, or 2, the later one. No call changes it.
+    pub edition: u8,
+    // The module has asked for the 5 V, which the caller then gives: on only in Open, under the later edition. A loss or a detected error
+    // has them off.
+    pub power: bool,
     pub phase: Phase,
     // What the line is to be at: 9600 but in Open. The reply to the baud frame that changes it is still sent at 9600.
     pub rate: u32,
@@ -42,10 +51,12 @@ pub struct Link {
 }
 
 // The record at the start of a phase.
-pub fn enter(phase: Phase, rate: u32, last: u32, dead: bool) -> Link
-    ensures { λ r. ⌜ r ≡ entering phase rate last dead ⌝ }
+pub fn enter(edition: u8, phase: Phase, rate: u32, last: u32, dead: bool) -> Link
+    ensures { λ r. ⌜ r ≡ entering edition phase rate last dead ⌝ }
 {
     Link {
+        edition,
+        power: false,
         phase,
         rate,
         last,
@@ -58,11 +69,11 @@ pub fn enter(phase: Phase, rate: u32, last: u32, dead: bool) -> Link
     }
 }
 
-// A fresh record, to begin with; a return to Start gives it too. The line is to be at 9600.
-pub fn new() -> Link
-    ensures { λ r. ⌜ r ≡ fresh ⌝ }
+// A fresh record of an edition, which a return to Start gives too. The line is to be at 9600, and the 5 V off.
+pub fn restart(edition: u8) -> Link
+    ensures { λ r. ⌜ r ≡ fresh edition ⌝ }
 {
-    enter(Phase::Start, FIRST_RATE, 0, false)
+    enter(edition, Phase::Start, FIRST_RATE, 0, false)
 }
 
 // The record after a whole frame: the holder is at rest again.
@@ -103,9 +114,26 @@ pub fn after_checks(link: Link, tick: u32) -> Link
 {
     let phase = link.phase;
     if is_lost(phase, link.last, tick) {
-        return new();
+        return restart(link.edition);
     }
     let mut next = link;
     next.dead = clock::still_dead(link.dead, link.last, tick);
     next
+}
+
+// What opening a link gives.
+pub struct Opening {
+    // 0, or 18 where there is no such edition.
+    pub refusal: u8,
+    // The fresh record; with 18 one that every call refuses with 5.
+    pub link: Link,
+}
+
+// Opens a link for the first edition, 1, or the later one, 2.
+pub fn new(edition: u8) -> Opening
+    ensures { λ r. ⌜ r ≡ opening edition ⌝ }
+{
+    let refusal = lists::check(link_frames::is_edition(edition), UNKNOWN_EDITION, 0);
+    let link = restart(edition);
+    Opening { refusal, link }
 }

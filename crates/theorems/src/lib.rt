@@ -45,6 +45,10 @@ ghost use Rattle.link_claims.specs.Silence.{SilenceCountsFrames};
 ghost use Rattle.link_claims.specs.DeadTime.{DeadSinceBaud};
 ghost use Rattle.link_claims.specs.Delivers.{Delivers};
 ghost use Rattle.link_claims.specs.Worked.{WorkedProbe};
+ghost use Rattle.link_claims.specs.Editions.{OpeningIs, EditionJudged};
+ghost use Rattle.link_claims.specs.Same.{SameAnswers};
+ghost use Rattle.link_claims.specs.Power.{PowerIs};
+ghost use Rattle.link_claims.specs.WorkedPower.{WorkedPower};
 ghost use Rattle.cases.specs.Cases.{Starred};
 ghost use Rattle.cases.specs.Digests.{DigestCases};
 ghost use Rattle.cases.specs.Pins.{PinCases};
@@ -388,17 +392,17 @@ pub fn link_refused_changes_nothing()
     ensures { λ r. ⌜ LinkRefusedChangesNothing ⌝ }
 {}
 
-// A frame that gets status 1 or 2 leaves phase, rate, RPC and outstanding data as they were.
+// A frame that gets status 1 or 2 leaves power, phase, rate, RPC and outstanding data as they were.
 pub fn link_failed_changes_nothing()
     ensures { λ r. ⌜ LinkFailedChangesNothing ⌝ }
 {}
 
-// A byte that shows an error leads back to Start with nothing sent, and no other byte is told as one.
+// A byte that shows an error leads back to Start, of the same edition and with power off, with nothing sent, and no other byte is told as one.
 pub fn errors_detected()
     ensures { λ r. ⌜ ErrorsDetected ⌝ }
 {}
 
-// From a fresh record no list of calls leads to refusal 5.
+// From the record that opening gives, for either edition, no list of calls leads to refusal 5.
 pub fn never_refused()
     ensures { λ r. ⌜ NeverRefused ⌝ }
 {}
@@ -413,12 +417,12 @@ pub fn sound_after_checks()
     ensures { λ r. ⌜ SoundAfterChecks ⌝ }
 {}
 
-// Held bytes pass refusal 5 exactly where a longer good frame starts with them.
+// Held bytes pass refusal 5 exactly where a longer good frame of the record's edition starts with them.
 pub fn starts_are()
     ensures { λ r. ⌜ StartsAre ⌝ }
 {}
 
-// A byte ends a good frame, goes on with one, or shows an error at once.
+// A byte ends a good frame of the edition, goes on with one, or shows an error at once.
 pub fn reading_is()
     ensures { λ r. ⌜ ReadingIs ⌝ }
 {}
@@ -460,6 +464,35 @@ pub fn delivers()
 // Ten calls bring a fresh link there; and of a data frame that then comes a byte every 200 ms the second byte finds the link lost.
 pub fn worked_probe()
     ensures { λ r. ⌜ WorkedProbe ⌝ }
+{}
+
+// A link is opened for edition 1 or 2, and for no other: 18, with a record that every call refuses with 5. No call changes the edition.
+pub fn opening_is()
+    ensures { λ r. ⌜ OpeningIs ⌝ }
+{}
+
+// A record of another edition, or with power on under the first edition or outside Open, is refused with 5 by every call.
+pub fn edition_judged()
+    ensures { λ r. ⌜ EditionJudged ⌝ }
+{}
+
+// From opening on, for every list of calls: as long as no frame 04 02 or 04 03 is begun, each call answers the same under both editions,
+// its buffer to the last byte too; and whether one is begun is the same, read off either run.
+pub fn same_answers()
+    ensures { λ r. ⌜ SameAnswers ⌝ }
+{}
+
+// From opening on, for every list of calls: power is what the answers told last, off at a loss or a detected error, and on only in Open
+// under the later edition. It is told exactly at the last byte of 04 02 or 04 03 there with RPC closed, with status 0; with RPC open such a
+// frame gets status 1 and changes nothing.
+pub fn power_is()
+    ensures { λ r. ⌜ PowerIs ⌝ }
+{}
+
+// A connection with power on, with RPC opened over it, with power off, an error and a silence, byte by byte; under the first edition the byte
+// 02 behind 04 is an error.
+pub fn worked_power()
+    ensures { λ r. ⌜ WorkedPower ⌝ }
 {}
 
 // ---- The worked cases.

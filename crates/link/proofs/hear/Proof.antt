@@ -22,14 +22,14 @@ lacks-sum-requires c κs = search needs
 sub-count : tie.Need-sub-count
 sub-count c =
     let lacks = c .before .before .before .before in
-    omega (arith, lacks-bounds _ _ _ (sym (lacks .lacks-sum .ensures) ∙ c .before .before .before .if1 .taken) .0)
+    omega (arith, lacks-bounds _ _ _ _ (sym (lacks .lacks-sum .ensures) ∙ c .before .before .before .if1 .taken) .0)
 
 slice-aggregate-xor-from : tie.Need-slice-aggregate-xor-from
 slice-aggregate-xor-from c =
     let branch = c .before .before .before .before in
     let start = branch .before .before .before in
     let n = frame-length start in
-    sym (length-take-le (start .args .t1 .held - 1) (start .args .t1 .frame) (omega (arith, lacks-bounds _ _ _ (sym (branch .before .lacks-sum .ensures) ∙ branch .if1 .taken) .1)))
+    sym (length-take-le (start .args .t1 .held - 1) (start .args .t1 .frame) (omega (arith, lacks-bounds _ _ _ _ (sym (branch .before .lacks-sum .ensures) ∙ branch .if1 .taken) .1)))
 
 xor-from-requires : tie.Need-xor-from-requires
 xor-from-requires c κs = search needs

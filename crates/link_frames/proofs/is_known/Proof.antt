@@ -1,3 +1,4 @@
+use borrow.Author.Needs.{needs}
 use borrow.Author.Tests.{ne-eqb}
 use mathlib.Core.Path.{refl}
 use Rattle.link_frames.specs.Frames.{known}
@@ -16,9 +17,12 @@ returns-3 : tie.Need-returns-3
 unfolding known
 returns-3 c = rw (c .match .keys3)
 
+most-control-requires : tie.Need-most-control-requires
+most-control-requires c κs = search needs
+
 returns-4 : tie.Need-returns-4
 unfolding known
-returns-4 c = rw (c .match .keys4)
+returns-4 c = rw (c .before .match .keys4, c .most-control .ensures)
 
 returns-5 : tie.Need-returns-5
 unfolding known
@@ -38,4 +42,4 @@ returns-6 c =
     ) refl
 
 pub is-known-spec : {M : Type 1} → statement M
-is-known-spec = tie.close (tie.spec returns returns-2 returns-3 returns-4 returns-5 returns-6)
+is-known-spec = tie.close (tie.spec most-control-requires returns returns-2 returns-3 returns-4 returns-5 returns-6)

@@ -21,13 +21,13 @@ returns c =
     let branch = zeros .before .before in
     let args = branch .before .args in
     let n : length (args .frame .now) ≡ 65 = search needs in
-    c .is-begun .ensures ∙ holder-begins _ _ (args .frame .now) n (branch .if1 .taken) (sym (zeros .zero-behind .ensures) ∙ c .before .before .if2 .taken)
+    c .is-begun .ensures ∙ holder-begins _ _ _ (args .frame .now) n (branch .if1 .taken) (sym (zeros .zero-behind .ensures) ∙ c .before .before .if2 .taken)
 
 returns-2 : tie.Need-returns-2
-returns-2 c = holder-behind _ _ _ (c .before .before .before .if1 .taken) (sym (c .before .zero-behind .ensures) ∙ c .if2 .left)
+returns-2 c = holder-behind _ _ _ _ (c .before .before .before .if1 .taken) (sym (c .before .zero-behind .ensures) ∙ c .if2 .left)
 
 returns-3 : tie.Need-returns-3
-returns-3 c = holder-long _ _ _ (c .if1 .left)
+returns-3 c = holder-long _ _ _ _ (c .if1 .left)
 
 pub holder-good-spec : {M : Type 1} → statement M
 holder-good-spec =

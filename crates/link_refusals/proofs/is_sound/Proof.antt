@@ -12,10 +12,13 @@ on-list-requires c κs = search needs
 fits-phase-requires : tie.Need-fits-phase-requires
 fits-phase-requires c κs = search needs
 
+fits-edition-requires : tie.Need-fits-edition-requires
+fits-edition-requires c κs = search needs
+
 returns : tie.Need-returns
 unfolding sound
-returns c = rw (c .before .before .holder-good .ensures, c .before .on-list .ensures, c .fits-phase .ensures)
+returns c = rw (c .before .before .before .holder-good .ensures, c .before .before .on-list .ensures, c .before .fits-phase .ensures, c .fits-edition .ensures)
 
 pub is-sound-spec : {M : Type 1} → statement M
 is-sound-spec =
-    tie.close (tie.spec holder-good-requires on-list-requires fits-phase-requires returns)
+    tie.close (tie.spec holder-good-requires on-list-requires fits-phase-requires fits-edition-requires returns)
