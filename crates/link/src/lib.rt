@@ -1,7 +1,9 @@
 // The hand unit's end of the expansion protocol, as a record that each call takes and hands back.
 pub use link_events::Event;
 use link_events::Turn;
+pub use link_frames::FIRST_EDITION;
 pub use link_frames::Holder;
+pub use link_frames::LATER_EDITION;
 pub use link_frames::Payload;
 pub use link_state::Link;
 pub use link_state::Opening;

@@ -6,13 +6,15 @@ use mathlib.Core.Bool.{Bool, true, false, cond, _&&_}
 use native.Mathlib.Omega.{arith}
 use lib.ListN.{length, getD, drop, length-append}
 use lib.Dec.{eqb}
+use borrow.Author.Tests.{eqb-true}
+use Rattle.lists.specs.Lay.{lay}
 use Rattle.lists.proofs.Tests.{absurd-test}
 use Rattle.fields.specs.Words.{word}
 use Rattle.fields.specs.Checksum.{xored}
 use Rattle.link_frames.specs.Editions.{laterEdition, mostControl}
 use Rattle.link_frames.specs.Frames.{heartbeatType, statusType, baudType, controlType, dataType, known, size, frameOf, status}
 use Rattle.link_frames.specs.Reading.{whole, lacksSum, allButSum, reading}
-use Rattle.link_state.specs.Link.{byPhase, heldOf, fresh, renewed, withPower}
+use Rattle.link_state.specs.Link.{byPhase, heldOf, renewed, withDead, withPower}
 use Rattle.link_state.specs.Rates.{onList}
 use Rattle.link_state.specs.Silence.{lost, checked}
 use Rattle.link_state.specs.declared.Link.{Link}
@@ -27,10 +29,12 @@ use Rattle.link_claims.specs.Calls.{Call, pull, byte, poll, send, tickOf
 use Rattle.link_claims.specs.Refusals.{refusalOf}
 use Rattle.link_claims.specs.Frames.{Good, a-heartbeat, a-status, a-baud, a-control, power-on, power-off, a-data}
 use Rattle.link_claims.specs.Same.{taken}
-use Rattle.link_claims.specs.Power.{Asks, PowerIs}
+use Rattle.link_claims.specs.Failures.{failing}
+use Rattle.link_claims.specs.Power.{Asks, granting, PowerIs}
 use Rattle.link_claims.proofs.Apart.{never}
 use Rattle.link_claims.proofs.Reading.{reading-is}
-use Rattle.link_claims.proofs.Failures.{sends-front}
+use Rattle.link_claims.proofs.Outcomes.{not-lost}
+use Rattle.link_claims.proofs.Failures.{passed-sound, awake}
 use Rattle.link_claims.proofs.Ways.{moveOf, step-is, by-refusal, by-checked, by-pulled, by-received, checked-edition}
 use Rattle.link_claims.proofs.Power.{power-is-told, power-only}
 
@@ -141,32 +145,15 @@ module _ (l : Link) (b tick : ℕ) (on : Bool) where
   received-told =
       by-received (λ m pick. m .saying ≡ powered on → Heard l b on) l b tick (λ _. mute refl) (λ _ _. mute refl) whole-told (λ _. mute refl)
 
--- ---- a record that the checks leave in Open
-module _ (l : Link) (tick : ℕ) where
-  record Stays : Type 0 where
-    connected : l .phase ≡ Open
-    rpc : checked l tick .rpc ≡ l .rpc
-    power : checked l tick .power ≡ l .power
-
-  open-stays : checked l tick .phase ≡ Open → Stays
-  unfolding fresh
-  open-stays o =
-      let s = by-checked (λ l′. l′ .phase ≡ Open → (l .phase ≡ Open) × (l′ .rpc ≡ l .rpc) × (l′ .power ≡ l .power)) l tick (λ _ e. never (cc)) (λ _ e. (e, refl, refl)) o in
-      record { connected = s .0; rpc = s .1; power = s .2 }
-
-  heard-open : l .phase ≡ Open → listens (checked l tick .phase) (checked l tick .dead) ≡ true → checked l tick .phase ≡ Open
-  unfolding fresh listens
-  heard-open o = by-checked (λ l′. listens (l′ .phase) (l′ .dead) ≡ true → l′ .phase ≡ Open) l tick (λ _ e. absurd-test e) (λ _ _. o)
-
 -- ---- a call that tells it asks for it, with RPC closed
 told-carried : (l : Link) (c : Call) (on : Bool) → refusalOf l c ≡ 0 → moveOf l c .saying ≡ powered on → Asks l c on × (l .rpc ≡ false)
 unfolding taken
 told-carried l (pull tick buffer) on n = by-pulled (λ m. m .saying ≡ powered on → Asks l (pull tick buffer) on × (l .rpc ≡ false)) (checked l tick) tick (mute refl) (mute refl)
 told-carried l (byte b tick buffer) on n = λ q.
     let h = received-told (checked l tick) b tick on q in
-    let s = open-stays l tick (h .connected) in (
-      record { later = sym (checked-edition l tick) ∙ h .told .later; connected = s .connected; frame = rw (n, h .listening) (h .told .is-frame) },
-      sym (s .rpc) ∙ h .told .closed,
+    let w = awake l tick (passed-sound l (byte b tick buffer) n) (h .listening) in (
+      record { later = sym (checked-edition l tick) ∙ h .told .later; connected = rw w at (h .connected); frame = rw (n, h .listening) (h .told .is-frame) },
+      rw w at (h .told .closed),
     )
 told-carried l (poll tick buffer) on n = mute refl
 told-carried l (send bytes tick buffer) on n = mute refl
@@ -192,9 +179,9 @@ some-frame : (on : Bool) → [] ≡ frameFor on → ⊥
 some-frame true e = let n : _≡_ {A = ℕ} 0 3 = ap length e in omega arith
 some-frame false e = let n : _≡_ {A = ℕ} 0 3 = ap length e in omega arith
 
-record Asked (l : Link) (c : Call) (on : Bool) : Type 0 where
-  stays : Stays l (tickOf c)
-  step-comes : step l c ≡ done (lost (l .phase) (l .last) (tickOf c)) (powerFrame (renewed (checked l (tickOf c)) (tickOf c)) on) (bufferOf c)
+-- the record as the checks leave it, which the frame finds
+abbrev Asked : Link → Call → Bool → Type 0
+Asked l c on = step l c ≡ done false (powerFrame (renewed (withDead l false) (tickOf c)) on) (bufferOf c)
 
 asked : (l : Link) (c : Call) (on : Bool) → Asks l c on → Asked l c on
 unfolding taken
@@ -204,50 +191,43 @@ asked l (byte b tick buffer) on a =
       by-test : (z s : Bool) → eqb (refusalOf l (byte b tick buffer)) 0 ≡ z → listens (checked l tick .phase) (checked l tick .dead) ≡ s
           → cond (z && s) (heldOf (checked l tick) ++ (b ∷ [])) [] ≡ frameFor on → Asked l (byte b tick buffer) on
       by-test true true z s f =
-          let o : checked l tick .phase ≡ Open = heard-open l tick (a .connected) s in
-          record {
-            stays = open-stays l tick o;
-            step-comes = rw (step-is l (byte b tick buffer), z, received-asked (checked l tick) b tick on s (checked-edition l tick ∙ a .later) o f);
-          }
+          let w = awake l tick (passed-sound l (byte b tick buffer) (eqb-true (refusalOf l (byte b tick buffer)) 0 z)) s in
+          let r : received (checked l tick) b tick ≡ powerFrame (renewed (checked l tick) tick) on =
+          received-asked (checked l tick) b tick on s (checked-edition l tick ∙ a .later) (ap (λ m. m .phase) w ∙ a .connected) f in
+          rw (step-is l (byte b tick buffer), z, r, not-lost l tick s, w)
       by-test true false z s f = absurd (some-frame on f)
       by-test false s z q f = absurd (some-frame on f)
 asked l (poll tick buffer) on a = absurd (some-frame on (a .frame))
 asked l (send bytes tick buffer) on a = absurd (some-frame on (a .frame))
 
-unchanged : (l : Link) (on : Bool) → l .rpc ≡ true → powerFrame l on .link .power ≡ l .power
+-- a frame of power with RPC closed, and with RPC open
+closed-power : (l : Link) (on : Bool) → l .rpc ≡ false → powerFrame l on ≡ move (withPower l on) (powered on) (status 0) (padded [])
 unfolding powerFrame
-unchanged l on e = ap (λ t. cond t (answers l (status 1)) (move (withPower l on) (powered on) (status 0) (padded [])) .link .power) e
+closed-power l on e = ap (λ t. cond t (answers l (status 1)) (move (withPower l on) (powered on) (status 0) (padded []))) e
+
+open-power : (l : Link) (on : Bool) → l .rpc ≡ true → powerFrame l on ≡ answers l (status 1)
+unfolding powerFrame
+open-power l on e = ap (λ t. cond t (answers l (status 1)) (move (withPower l on) (powered on) (status 0) (padded []))) e
 
 module _ (l : Link) (c : Call) (on : Bool) (a : Asks l c on) where
-  abbrev r : Link
-  r = renewed (checked l (tickOf c)) (tickOf c)
+  granted : l .rpc ≡ false → step l c ≡ granting on l (tickOf c) (bufferOf c)
+  unfolding done renewed frameOf xored
+  granted e = asked l c on a ∙ ap (λ m. done false m (bufferOf c)) (closed-power (renewed (withDead l false) (tickOf c)) on e)
 
-  same-rpc : r .rpc ≡ l .rpc
-  unfolding renewed
-  same-rpc = asked l c on a .stays .rpc
+  fails : l .rpc ≡ true → step l c ≡ failing 1 l (tickOf c) (bufferOf c)
+  unfolding done renewed
+  fails e = asked l c on a ∙ ap (λ m. done false m (bufferOf c)) (open-power (renewed (withDead l false) (tickOf c)) on e)
 
-  sends : sentBy (step l c) ≡ powerFrame r on .sends
-  sends = ap sentBy (asked l c on a .step-comes) ∙ sends-front _ (powerFrame r on) (bufferOf c)
-
-  granted-told : l .rpc ≡ false → step l c .saying ≡ powered on
-  unfolding powerFrame done
-  granted-told e = rw (asked l c on a .step-comes, same-rpc, e)
-
-  granted : l .rpc ≡ false → (sentBy (step l c) ≡ 0x02 ∷ 0x00 ∷ 0x02 ∷ []) × (step l c .link .power ≡ on)
-  unfolding powerFrame done frameOf xored
-  granted e = (sends ∙ rw (same-rpc, e), rw (asked l c on a .step-comes, same-rpc, e))
-
-  denied : l .rpc ≡ true → (sentBy (step l c) ≡ 0x02 ∷ 0x01 ∷ 0x03 ∷ []) × (step l c .saying ≡ nothing) × (step l c .link .power ≡ l .power)
-  unfolding powerFrame done frameOf xored renewed
-  denied e =
-      (sends ∙ rw (same-rpc, e), rw (asked l c on a .step-comes, same-rpc, e), rw (asked l c on a .step-comes) (unchanged r on (same-rpc ∙ e) ∙ asked l c on a .stays .power))
+  denied : l .rpc ≡ true → (step l c ≡ failing 1 l (tickOf c) (bufferOf c)) × (sentBy (step l c) ≡ 0x02 ∷ 0x01 ∷ 0x03 ∷ [])
+  unfolding frameOf xored lay
+  denied e = (fails e, rw (fails e))
 
 pub power-is : PowerIs
 power-is =
     record {
       is = power-is-told;
       only = power-only;
-      told = λ l c on. (told-only l c on, λ p. granted-told l c on (p .0) (p .1));
+      told = λ l c on. (told-only l c on, λ p. ap (λ s. s .saying) (granted l c on (p .0) (p .1)));
       granted = granted;
       denied = denied;
     }

@@ -2,21 +2,23 @@
 use Prim.Native.Nat.{ℕ, _≤_}
 use mathlib.Core.Path.{_≡_, refl, sym, ap, _∙_}
 use mathlib.Core.List.{List, [], _∷_, _++_, append-nil}
-use mathlib.Core.Bool.{true, false}
+use mathlib.Core.Bool.{Bool, true, false, cond}
+use native.Mathlib.Omega.{arith}
 use lib.ListN.{length}
 use borrow.Author.Tests.{le-leb, lt-leb}
 use Rattle.lists.specs.Checks.{first}
-use Rattle.link_frames.specs.Frames.{mostData, statusType, dataType, status, dataFrame}
+use Rattle.fields.specs.Checksum.{xored}
+use Rattle.link_frames.specs.Frames.{mostData, statusType, controlType, dataType, frameOf, status, control, dataFrame}
 use Rattle.link_frames.specs.Reading.{Reading, more, whole, wrong, reading, byReading}
 use Rattle.link_state.specs.Clock.{elapsed, silenceTime, silence, stillDead}
-use Rattle.link_state.specs.Link.{heldOf, renewed, kept, withDead, withOutstanding}
+use Rattle.link_state.specs.Link.{heldOf, renewed, kept, withDead, withOutstanding, withPower}
 use Rattle.link_state.specs.Silence.{lost, checked}
 use Rattle.link_refusals.specs.Refusals.{shortestBuffer, checks, sendChecks}
 use Rattle.link_state.specs.declared.Link.{Link}
 use Rattle.link_state.specs.declared.Phase.the-variants.{Start, Open}
-use Rattle.link_events.specs.Moves.{handed, ended, Move, move, padded}
+use Rattle.link_events.specs.Moves.{handed, powered, ended, Move, move, padded}
 use Rattle.link_events.specs.Turns.{quiet, answers, tells, pulled, listens}
-use Rattle.link_effects.specs.Whole.{takenData, statusFrame, openFrame}
+use Rattle.link_effects.specs.Whole.{takenData, statusFrame, controlFrame, powerFrame, openFrame}
 use Rattle.link.specs.Answers.{Step, done}
 use Rattle.link.specs.Hearing.{wholeFrame, heard, received}
 use Rattle.link.proofs.Kept.{held-kept}
@@ -24,7 +26,7 @@ use Rattle.link_claims.specs.Calls.{Call, pull, byte, poll, send, step, 
 use Rattle.link_claims.specs.Refusals.{tableOf, refusalOf}
 use Rattle.link_claims.specs.Own.{frame, error, readFrom}
 use Rattle.link_claims.specs.Answered.{Answer, answerOf, answersTo}
-use Rattle.link_claims.specs.Delivers.{Timely, Carries, last-byte, next-byte, first-poll, first-pull, QuietUntil, at-last, after-quiet, handing, ending, sending, Listening, Delivers}
+use Rattle.link_claims.specs.Delivers.{Timely, Carries, last-byte, next-byte, first-poll, first-pull, QuietUntil, at-last, after-quiet, handing, ending, sending, switching, Listening, Delivers}
 use Rattle.link_claims.proofs.Ways.{by-refusal}
 use Rattle.link_claims.proofs.Sound.{Parts, parts, whole-again, parts-outstanding, left, parts-kept, goes-on, checks-pass}
 use Rattle.link_claims.proofs.Activity.{answerTo, answer-done}
@@ -192,6 +194,28 @@ module _ (l : Link) (r : Listening l) where
       let q : readFrom (l .edition) (heldOf l) (status code) ≡ frame (statusType ∷ code ∷ []) [] = rw nothing-held (rw append-nil at (reads-own .statuses (l .edition) code n [])) in
       rw (status-taken o code end) at (frame-ends _ l listening-hears x q)
 
+  power-taken : l .rpc ≡ false → (on : Bool) (end : ℕ) → wholeFrame l (controlType ∷ cond on 2 3 ∷ []) end ≡ move (withPower (renewed l end) on) (powered on) (status 0) (padded [])
+  unfolding wholeFrame openFrame controlFrame powerFrame renewed
+  power-taken o true end = rw (r .connected, o)
+  power-taken o false end = rw (r .connected, o)
+
+  frame-for : (on : Bool) → cond on (0x04 ∷ 0x02 ∷ 0x06 ∷ []) (0x04 ∷ 0x03 ∷ 0x07 ∷ []) ≡ control (cond on 2 3)
+  unfolding frameOf xored
+  frame-for true = refl
+  frame-for false = refl
+
+  code-of : (on : Bool) → (2 ≤ cond on 2 3) × (cond on 2 3 ≤ 3)
+  code-of true = (omega arith, omega arith)
+  code-of false = (omega arith, omega arith)
+
+  switches : l .edition ≡ 2 → l .rpc ≡ false → (on : Bool) (end : ℕ) (cs : List Call)
+      → Carries (l .last) (cond on (0x04 ∷ 0x02 ∷ 0x06 ∷ []) (0x04 ∷ 0x03 ∷ 0x07 ∷ [])) end cs → Ends l cs (switching on) (withPower (renewed l end) on)
+  switches d o on end cs x =
+      let m = code-of on in
+      let k : readFrom 2 [] (control (cond on 2 3)) ≡ frame (controlType ∷ cond on 2 3 ∷ []) [] = rw append-nil at (reads-own .powers (cond on 2 3) (m .0) (m .1) []) in
+      let q : readFrom (l .edition) (heldOf l) (control (cond on 2 3)) ≡ frame (controlType ∷ cond on 2 3 ∷ []) [] = rw nothing-held (ap (λ e. readFrom e [] (control (cond on 2 3))) d ∙ k) in
+      rw (power-taken o on end) at (frame-ends _ l listening-hears (rw (frame-for on) at x) q)
+
 module _ (l : Link) (r : Listening l) (p : l .rpc ≡ true) (o : l .outstanding ≡ false) (bytes : List ℕ) (n : length bytes ≤ mostData) (tick : ℕ) (buffer : List ℕ) (t : Timely (l .last) tick buffer) where
   send-passes : first (sendChecks l (checked l tick) (length bytes) (length buffer)) ≡ 0
   unfolding sendChecks first
@@ -234,4 +258,4 @@ module _ (l : Link) (r : Listening l) (p : l .rpc ≡ true) (o : l .outstanding 
       (sends .0, rw (sends .1) (z .0), rw (sends .1, o) (z .1))
 
 pub delivers : Delivers
-delivers = record { arrives = arrives; sends = sends; answered = answered; after-our-send = after-our-send }
+delivers = record { arrives = arrives; sends = sends; answered = answered; switches = switches; after-our-send = after-our-send }

@@ -9,18 +9,21 @@ use borrow.Author.Tests.{eqb-true, ne-eqb}
 use Rattle.lists.specs.Checks.{first}
 use Rattle.lists.proofs.Tests.{absurd-test, both}
 use Rattle.link_frames.specs.Editions.{isEdition, laterEdition}
-use Rattle.link_state.specs.Link.{byPhase, fresh}
+use Rattle.link_state.specs.Link.{byPhase, heldOf, fresh}
 use Rattle.link_state.specs.Opening.{opening, unknownEdition}
 use Rattle.link_state.specs.declared.Link.{Link}
 use Rattle.link_state.specs.declared.Phase.{Phase}
 use Rattle.link_state.specs.declared.Phase.the-variants.{Start, Baud, Open}
 use Rattle.link_refusals.specs.Sound.{fitsEdition, sound}
 use Rattle.link_refusals.specs.Refusals.{checks, sendChecks}
+use Rattle.link_refusals.proofs.Sound.{held-good}
 use Rattle.link_events.specs.Moves.{refused}
 use Rattle.link.specs.Answers.{refusing}
 use Rattle.link_claims.specs.Calls.{Call, pull, byte, poll, send, bufferOf, step, after}
 use Rattle.link_claims.specs.Refusals.{tableOf, refusalOf}
 use Rattle.link_claims.specs.Editions.{OpeningIs, EditionJudged}
+use Rattle.link_claims.specs.Frames.{Longer}
+use Rattle.link_claims.proofs.Frames.{to-longer}
 use Rattle.link_claims.proofs.Sound.{tests}
 use Rattle.link_claims.proofs.Refusals.{refused-given}
 use Rattle.link_claims.proofs.Power.{edition-stays}
@@ -33,11 +36,17 @@ five l (byte b tick buffer) s = rw s
 five l (poll tick buffer) s = rw s
 five l (send bytes tick buffer) s = rw s
 
-struck : (l : Link) → (fitsEdition (l .edition) (l .power) (l .phase) ≡ true → ⊥) → sound l ≡ false
-struck l h = by-test (sound l) refl where
+unsound : (l : Link) → (sound l ≡ true → ⊥) → sound l ≡ false
+unsound l h = by-test (sound l) refl where
   by-test : (t : Bool) → sound l ≡ t → t ≡ false
-  by-test true e = absurd (h (tests l e .1 .1 .1))
+  by-test true e = absurd (h e)
   by-test false e = refl
+
+struck : (l : Link) → (fitsEdition (l .edition) (l .power) (l .phase) ≡ true → ⊥) → sound l ≡ false
+struck l h = unsound l (λ e. h (tests l e .1 .1 .1))
+
+begins-none : (l : Link) → (Longer (l .edition) (heldOf l) → ⊥) → sound l ≡ false
+begins-none l h = unsound l (λ e. h (to-longer (l .edition) (heldOf l) (held-good (l .edition) (l .held) (l .kind) (l .frame) (tests l e .0) .start)))
 
 -- ---- what fits says
 fits-edition : (edition : ℕ) (on : Bool) (p : Phase) → fitsEdition edition on p ≡ true → isEdition edition ≡ true
@@ -69,6 +78,7 @@ edition-judged =
     record {
       another = λ l a b c. five l c (another l (no-edition (l .edition) a b));
       under-the-first = λ l on e c. five l c (powered l on (λ p. omega (arith, e, p .0)));
+      held = λ l h c. five l c (begins-none l h);
       outside-open = λ l on h c. five l c (powered l on (λ p. h (p .1)));
     }
 
@@ -90,11 +100,9 @@ after-refused (c ∷ cs) l s = rw (step-refused l c s) (after-refused cs l s) wh
 opened-5 : (edition : ℕ) → opening edition .refusal ≡ 18 → (calls : List Call) (next : Call) → step (after (opening edition .link) calls) next .saying ≡ refused 5
 unfolding opening fresh refusing
 opened-5 edition e calls next =
-    let s : sound (fresh edition) ≡ false = unsound in
+    let s : sound (fresh edition) ≡ false = another (fresh edition) (eighteen edition e) in
     let n = five (fresh edition) next s in
-    rw (after-refused calls (fresh edition) s, refused-given (fresh edition) next (λ z. omega arith), n) where
-      unsound : sound (fresh edition) ≡ false
-      unsound = another (fresh edition) (eighteen edition e)
+    rw (after-refused calls (fresh edition) s, refused-given (fresh edition) next (λ z. omega arith), n)
 
 pub opening-is : OpeningIs
 unfolding opening isEdition

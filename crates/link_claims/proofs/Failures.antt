@@ -9,7 +9,7 @@ use Rattle.lists.specs.Lay.{lay}
 use Rattle.lists.proofs.Tests.{absurd-test, first-passed}
 use Rattle.link_frames.specs.Frames.{frameOf, status}
 use Rattle.link_state.specs.Clock.{stillDead}
-use Rattle.link_state.specs.Link.{renewed}
+use Rattle.link_state.specs.Link.{renewed, withDead}
 use Rattle.link_state.specs.Silence.{lost, checked}
 use Rattle.link_refusals.specs.Sound.{fitsPhase, sound}
 use Rattle.link_refusals.specs.Refusals.{checks, sendChecks}
@@ -45,6 +45,10 @@ module _ (l : Link) (tick : ℕ) (s : sound l ≡ true) (e : listens (checked l 
   no-dead : stillDead (l .dead) (l .last) tick ≡ false
   unfolding checked stillDead
   no-dead = dead-over (l .phase) (l .dead) _ (l .rpc) (l .outstanding) (l .rate) (l .held) (tests l s .1 .1 .0) (rw (not-lost l tick e) at e)
+
+  pub awake : checked l tick ≡ withDead l false
+  unfolding checked
+  awake = rw (not-lost l tick e, no-dead)
 
   failed-off : (n : ℕ) (buffer : List ℕ) → done (lost (l .phase) (l .last) tick) (answers (renewed (checked l tick) tick) (status n)) buffer ≡ failing n l tick buffer
   unfolding done checked renewed

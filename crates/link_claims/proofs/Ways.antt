@@ -28,7 +28,7 @@ use Rattle.link.specs.Step.{call, pullStep, byteStep, pollStep, sendStep}
 use Rattle.link_claims.specs.Calls.{Call, pull, byte, poll, send, tickOf, bufferOf, step}
 use Rattle.link_claims.specs.Refusals.{tableOf, refusalOf}
 use Rattle.link_claims.specs.Errors.{byByte, outOfPlace}
-use Rattle.link_claims.specs.Failures.{failedControl, failure}
+use Rattle.link_claims.specs.Failures.{controlStatus, failure}
 use Rattle.link_claims.proofs.Apart.{never}
 
 -- ---- a call is refused or carried out
@@ -108,7 +108,7 @@ module _ (P : Move → ℕ → Bool → Type 0) (l : Link) (tick : ℕ) (w : Way
 
   ways-open : (type code : ℕ) (bytes : List ℕ) → known (l .edition) type code ≡ true → l .phase ≡ Open
       → P (openFrame (renewed l tick) type code bytes)
-      (cond (eqb type heartbeatType) 0 (cond (eqb type statusType) 0 (cond (eqb type baudType) 0 (cond (eqb type controlType) (failedControl (l .rpc) code) (cond (eqb type dataType) (cond (l .rpc) 0 1) 0)))))
+      (cond (eqb type heartbeatType) 0 (cond (eqb type statusType) 0 (cond (eqb type baudType) 0 (cond (eqb type controlType) (controlStatus (l .rpc) code) (cond (eqb type dataType) (cond (l .rpc) 0 1) 0)))))
       (cond (eqb type heartbeatType) false (cond (eqb type statusType) (not (l .outstanding)) (cond (eqb type baudType) true (cond (eqb type controlType) false (cond (eqb type dataType) false true)))))
   unfolding openFrame statusFrame controlFrame powerFrame takenData renewed known
   ways-open type code bytes k o = by-test (eqb type heartbeatType) (eqb type statusType) (eqb type baudType) (eqb type controlType) (eqb type dataType) (eqb code 0) (eqb code 1) (l .outstanding) (l .rpc) k where

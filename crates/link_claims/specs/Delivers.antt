@@ -1,16 +1,16 @@
 -- What a probe writes arrives, where it writes the whole frame within 250 ms of the last activity.
 use mathlib.Core.Path.{_≡_}
 use mathlib.Core.List.{List, [], _∷_}
-use mathlib.Core.Bool.{true, false}
+use mathlib.Core.Bool.{Bool, true, false, cond}
 use Prim.Native.Nat.{ℕ, _≤_, _<_}
 use lib.ListN.{length}
 use Rattle.link_frames.specs.Frames.{mostData, status, dataFrame}
 use Rattle.link_state.specs.Clock.{elapsed, silenceTime}
-use Rattle.link_state.specs.Link.{renewed, withOutstanding}
+use Rattle.link_state.specs.Link.{renewed, withOutstanding, withPower}
 use Rattle.link_refusals.specs.Refusals.{shortestBuffer}
 use Rattle.link_state.specs.declared.Link.{Link}
 use Rattle.link_state.specs.declared.Phase.the-variants.{Open}
-use Rattle.link_events.specs.Moves.{nothing, handed, ended, padded}
+use Rattle.link_events.specs.Moves.{nothing, handed, powered, ended, padded}
 use Rattle.link_claims.specs.Calls.{Call, pull, byte, poll, send, step, after}
 use Rattle.link_claims.specs.Sound.{SoundLink}
 use Rattle.link_claims.specs.Answered.{Answer, answerOf, answersTo}
@@ -48,6 +48,10 @@ ending code = record { lost = false; saying = ended code; sent = []; bytes = pad
 abbrev pub sending : List ℕ → Answer
 sending bytes = record { lost = false; saying = nothing; sent = dataFrame bytes; bytes = padded [] }
 
+-- the power state is told, and status 0 is sent
+abbrev pub switching : Bool → Answer
+switching on = record { lost = false; saying = powered on; sent = status 0; bytes = padded [] }
+
 -- a sound link in Open, out of dead time, with nothing held
 pub record Listening (l : Link) : Type 0 where
   pub good : SoundLink l
@@ -68,6 +72,10 @@ pub record Delivers : Type 0 where
   pub answered : (l : Link) → Listening l → l .outstanding ≡ true
       → (code : ℕ) → code ≤ 2 → (end : ℕ) (cs : List Call) → Carries (l .last) (status code) end cs
       → QuietUntil (ending code) (answersTo l cs) × (after l cs ≡ withOutstanding (renewed l end) false)
+  -- under the later edition, with RPC closed, the bytes of 04 02 06 or 04 03 07 switch the power, whatever it was
+  pub switches : (l : Link) → Listening l → l .edition ≡ 2 → l .rpc ≡ false
+      → (on : Bool) (end : ℕ) (cs : List Call) → Carries (l .last) (cond on (0x04 ∷ 0x02 ∷ 0x06 ∷ []) (0x04 ∷ 0x03 ∷ 0x07 ∷ [])) end cs
+      → QuietUntil (switching on) (answersTo l cs) × (after l cs ≡ withPower (renewed l end) on)
   -- so a status directly after our send ends it, and the record is as it was before the send but for the tick of last activity
   pub after-our-send : (l : Link) → Listening l → l .rpc ≡ true → l .outstanding ≡ false → (bytes : List ℕ) → length bytes ≤ mostData
       → (tick : ℕ) (buffer : List ℕ) → Timely (l .last) tick buffer

@@ -20,8 +20,8 @@ use Rattle.link_claims.specs.Errors.{byByte}
 
 -- the status of a control frame in Open: "Start with RPC closed, stop with it open: status 0; the reverse: status 1"; of the others, power on and off, "status 0
 -- with RPC closed"; "with RPC open, status 1"
-abbrev pub failedControl : Bool → ℕ → ℕ
-failedControl rpc code = cond (eqb code 0) (cond rpc 1 0) (cond (eqb code 1) (cond rpc 0 1) (cond rpc 1 0))
+abbrev pub controlStatus : Bool → ℕ → ℕ
+controlStatus rpc code = cond (eqb code 0) (cond rpc 1 0) (cond (eqb code 1) (cond rpc 0 1) (cond rpc 1 0))
 
 -- the status of a frame, all of it but the checksum, that fails, 0 for any other: in Baud "another [rate] gets status 2"; in Open such a control frame,
 -- and "with RPC closed, status 1" for data
@@ -29,7 +29,7 @@ unfoldable pub failure : Link → List ℕ → ℕ
 failure l bytes =
     byPhase (l .phase) 0
     (cond (eqb (getD bytes 0 0) baudType) (cond (onList (word bytes 1)) 0 2) 0)
-    (byType (getD bytes 0 0) 0 0 0 (failedControl (l .rpc) (getD bytes 1 0)) (cond (l .rpc) 0 1) 0)
+    (byType (getD bytes 0 0) 0 0 0 (controlStatus (l .rpc) (getD bytes 1 0)) (cond (l .rpc) 0 1) 0)
 
 -- the status of the frame whose last byte the call brings
 unfoldable pub failureOf : Link → Call → ℕ

@@ -5,13 +5,16 @@ use mathlib.Core.List.{List, [], _∷_}
 use mathlib.Core.Bool.{Bool, true, false, not, cond, _&&_}
 use mathlib.Core.Logic.{_↔_}
 use Prim.Native.Nat.{ℕ}
+use Rattle.lists.specs.Lay.{lay}
+use Rattle.link_state.specs.Link.{atRest}
 use Rattle.link_state.specs.Opening.{opening}
 use Rattle.link_state.specs.declared.Link.{Link}
 use Rattle.link_state.specs.declared.Phase.the-variants.{Open}
-use Rattle.link_events.specs.Moves.{Saying, nothing, opened, handed, confirmed, failed, powered, detected, refused}
-use Rattle.link.specs.Answers.{sentBy}
-use Rattle.link_claims.specs.Calls.{Call, step, after}
+use Rattle.link_events.specs.Moves.{Saying, nothing, opened, handed, confirmed, failed, powered, detected, refused, padded}
+use Rattle.link.specs.Answers.{Step, sentBy}
+use Rattle.link_claims.specs.Calls.{Call, tickOf, bufferOf, step, after}
 use Rattle.link_claims.specs.Answered.{Answer, answersTo}
+use Rattle.link_claims.specs.Failures.{failing}
 use Rattle.link_claims.specs.Same.{taken}
 
 -- the power after what is told: as told, off at a detected error, else as it was
@@ -25,7 +28,7 @@ bySaying (powered state) on = state
 bySaying detected on = false
 bySaying (refused number) on = on
 
--- a loss, which comes first, has it off
+-- a loss, which comes first, switches it off
 abbrev pub byAnswer : Bool → Answer → Bool
 byAnswer on a = bySaying (a .saying) (on && not (a .lost))
 
@@ -39,6 +42,32 @@ pub record Asks (l : Link) (c : Call) (on : Bool) : Type 0 where
   pub connected : l .phase ≡ Open
   pub frame : taken l c ≡ cond on (0x04 ∷ 0x02 ∷ 0x06 ∷ []) (0x04 ∷ 0x03 ∷ 0x07 ∷ [])
 
+-- the power is as asked for, as the caller is told, and status 0 is sent, 02 00 02; edition, phase, rate, RPC and outstanding data are as they came, the frame is
+-- activity, the holder is renewed, and dead time is over
+abbrev pub granting : Bool → Link → ℕ → List ℕ → Step
+granting on l tick buffer =
+    record {
+      link =
+          record {
+            edition = l .edition;
+            power = on;
+            phase = l .phase;
+            rate = l .rate;
+            last = tick;
+            dead = false;
+            rpc = l .rpc;
+            outstanding = l .outstanding;
+            held = 0;
+            kind = 0;
+            frame = atRest;
+          };
+      saying = powered on;
+      lost = false;
+      count = 3;
+      bytes = padded [];
+      buffer = lay buffer 0 (0x02 ∷ 0x00 ∷ 0x02 ∷ []);
+    }
+
 pub record PowerIs : Type 0 where
   -- over every list of calls from opening, power is what the answers tell, read in their order; it is off to begin with
   pub is : (edition : ℕ) (calls : List Call) → after (opening edition .link) calls .power ≡ byAnswers false (answersTo (opening edition .link) calls)
@@ -46,8 +75,8 @@ pub record PowerIs : Type 0 where
   pub only : (edition : ℕ) (calls : List Call) → after (opening edition .link) calls .power ≡ true → (after (opening edition .link) calls .phase ≡ Open) × (edition ≡ 2)
   -- whatever the record: the state is told exactly where a call asks for it with RPC closed, be it so already or not
   pub told : (l : Link) (c : Call) (on : Bool) → (step l c .saying ≡ powered on) ↔ (Asks l c on × (l .rpc ≡ false))
-  -- status 0 is then sent, 02 00 02, and the power is so
-  pub granted : (l : Link) (c : Call) (on : Bool) → Asks l c on → l .rpc ≡ false → (sentBy (step l c) ≡ 0x02 ∷ 0x00 ∷ 0x02 ∷ []) × (step l c .link .power ≡ on)
-  -- with RPC open status 1 is sent, 02 01 03, nothing is told, and the power is as it was
+  -- it is then granted
+  pub granted : (l : Link) (c : Call) (on : Bool) → Asks l c on → l .rpc ≡ false → step l c ≡ granting on l (tickOf c) (bufferOf c)
+  -- with RPC open it fails: status 1 is sent, 02 01 03, nothing is told, and the power is as it was
   pub denied : (l : Link) (c : Call) (on : Bool) → Asks l c on → l .rpc ≡ true
-      → (sentBy (step l c) ≡ 0x02 ∷ 0x01 ∷ 0x03 ∷ []) × (step l c .saying ≡ nothing) × (step l c .link .power ≡ l .power)
+      → (step l c ≡ failing 1 l (tickOf c) (bufferOf c)) × (sentBy (step l c) ≡ 0x02 ∷ 0x01 ∷ 0x03 ∷ [])

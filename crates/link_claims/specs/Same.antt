@@ -49,6 +49,6 @@ pub record SameAnswers : Type 0 where
       → SameAnswer (step (after (opening 1 .link) calls) next) (step (after (opening 2 .link) calls) next)
   -- the condition is the same, read off the run of the one edition or of the other
   pub either : (calls : List Call) → neverPower (opening 1 .link) calls ≡ neverPower (opening 2 .link) calls
-  -- and it is one on each call, in its place
+  -- and it holds exactly where no call of the list takes such a byte
   pub each : (l : Link) (calls : List Call)
       → (neverPower l calls ≡ true) ↔ ((before : List Call) (c : Call) (rest : List Call) → calls ≡ before ++ (c ∷ rest) → ofPower (taken (after l before) c) ≡ false)

@@ -11,7 +11,7 @@ use Rattle.link_state.specs.declared.Link.{Link}
 use Rattle.link_events.specs.Moves.{refused}
 use Rattle.link_claims.specs.Calls.{Call, step, after}
 
--- a link that starts fresh is never refused with 5: whatever the calls, their ticks and their buffers, the next call does not refuse the record so
+-- a link that was opened is never refused with 5: whatever the calls, their ticks and their buffers, the next call does not refuse the record so
 abbrev pub NeverRefused : Type 0
 NeverRefused = (edition : ℕ) → opening edition .refusal ≡ 0 → (calls : List Call) (next : Call) → step (after (opening edition .link) calls) next .saying ≡ refused 5 → ⊥
 

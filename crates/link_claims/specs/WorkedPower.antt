@@ -39,6 +39,6 @@ pub record WorkedPower : Type 0 where
   -- with RPC closed it is off
   pub off : let s : Step = next 2 (given ++ (byte 0x04 30 lent ∷ byte 0x03 30 lent ∷ [])) 0x07 in
       (s .saying ≡ powered false) × (sentBy s ≡ 0x02 ∷ 0x00 ∷ 0x02 ∷ []) × (s .link .power ≡ false)
-  -- a byte that is no frame's has it off; and so has a silence of 250 ms, which the poll tells
+  -- a byte that begins no frame switches it off; and so does a silence of 250 ms, which the poll tells
   pub off-by-error : let s : Step = next 2 given 0x00 in (s .saying ≡ detected) × (s .link ≡ opening 2 .link)
   pub off-by-silence : let s : Step = step (after (opening 2 .link) given) (poll 280 lent) in (s .lost ≡ true) × (s .link ≡ opening 2 .link)

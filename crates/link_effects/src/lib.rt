@@ -88,13 +88,13 @@ fn stop_frame(link: Link) -> Turn
     reply_with(link, Reply::Status(1))
 }
 
-// A start or a stop of RPC, or power on or off, which no good frame of the first edition is.
+// A start or a stop of RPC, or power on or off. A good frame has none of these two under the first edition, and no other code.
 fn control_frame(link: Link, code: u8) -> Turn
     ensures { λ r. ⌜ moved r ≡ controlFrame link code ⌝ }
 {
     match code {
-        0 => start_frame(link),
-        1 => stop_frame(link),
+        link_frames::START => start_frame(link),
+        link_frames::STOP => stop_frame(link),
         _ => power::power_frame(link, code == link_frames::POWER_ON),
     }
 }

@@ -13,7 +13,7 @@ use Rattle.link_events.specs.declared.Reply.the-variants as reply
 use Rattle.link_events.specs.declared.Turn.{Turn}
 
 -- what the caller is told, in the paper's numbers and values: nothing, Open at a rate, data of so many bytes, our outstanding data
--- confirmed (status 0) or failed with its status (1 or 2), a detected error, a refusal by its number
+-- confirmed (status 0) or failed with its status (1 or 2), the power state (true is on), a detected error, a refusal by its number
 pub data Saying : Type 0 where
   nothing : Saying
   opened : ℕ → Saying

@@ -24,14 +24,14 @@ pub enum Event {
     // The other end has not taken our outstanding data: this is its status, 1 or 2. Nothing is outstanding any more: while
     // RPC is open, send the data again, or give it up.
     Failed(u8),
-    // The module has asked for the 5 V, true, or no longer needs them, false; told too where they are so already. Switch them, then let
-    // the reply go out, which confirms it. They stay so until the next such event, a loss or a detected error.
+    // The module has asked for the 5 V, true, or no longer needs them, false; told too where they are so already. Let the reply go out,
+    // then switch them. They stay so until the next such event, or until a loss or a detected error switches them off.
     Powered(bool),
     // What came is no good frame, or one out of place. The link is in Start: nothing is sent, the line goes back to 9600, the 5 V are
     // switched off if they are on, outstanding data is gone, and the other end has to pull the line again.
     DetectedError,
     // The call did nothing, for the reason of this number; the record comes back as it was, nothing is sent, and a byte is not taken.
-    // 5: the record is none that a call gave, start with a new one; 8: the answer buffer is under 67 bytes; and only for a send,
+    // 5: the record is none that a call gave, or of an edition that there is not: open a link anew; 8: the answer buffer is under 67 bytes; and only for a send,
     // 10: not Open, 12: dead time, 11: RPC is closed, 13: a frame of ours is unconfirmed, 14: over 64 bytes.
     Refused(u8),
 }

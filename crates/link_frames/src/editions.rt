@@ -6,8 +6,10 @@ pub const FIRST_EDITION: u8 = 1;
 
 pub const LATER_EDITION: u8 = 2;
 
-// Codes of a control frame. The first edition ends with the stop of RPC.
-const STOP: u8 = 1;
+// The codes of a control frame: a start and a stop of RPC; under the later edition also power on and off.
+pub const START: u8 = 0;
+
+pub const STOP: u8 = 1;
 
 pub const POWER_ON: u8 = 2;
 

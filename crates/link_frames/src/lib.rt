@@ -4,6 +4,8 @@ mod editions;
 pub use editions::FIRST_EDITION;
 pub use editions::LATER_EDITION;
 pub use editions::POWER_ON;
+pub use editions::START;
+pub use editions::STOP;
 pub use editions::is_edition;
 ghost use mathlib.Core.Path.{_≡_};
 ghost use mathlib.Core.List.{_∷_};

@@ -1,7 +1,7 @@
 // The calls of the link for an interrupt handler: the record is lent, and is found updated; a refused call leaves it as it was.
 // What each asks of the caller stands at the call of the same name in `link`, and at `link::Told` and `link::Event`: lend an answer
 // buffer of at least 67 bytes, and send the first `sent` of them; on `lost` and on `DetectedError` the line goes back to 9600, the 5 V
-// are switched off if they are on, and outstanding data is gone; on `Powered` they are switched as it says. A record is lent to one call
+// are switched off if they are on, and outstanding data is gone; on `Powered` they are switched, behind the reply. A record is lent to one call
 // at a time, so a handler must not interrupt another call on it.
 use link::Link;
 use link::Told;

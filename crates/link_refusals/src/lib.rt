@@ -83,7 +83,7 @@ pub fn judge(link: Link, buffer: usize) -> u8
     lists::check(is_sound(link), 5, judge_buffer(buffer))
 }
 
-// Whether data can be sent in this phase at all.
+// Whether the phase is Open: only there can data be sent and power be on.
 fn is_open(phase: Phase) -> bool
     ensures { λ r. ⌜ r ≡ byPhase phase false false true ⌝ }
 {

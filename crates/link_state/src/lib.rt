@@ -29,7 +29,7 @@ pub struct Link {
     // What the link was opened for: 1, the first edition of the protocol, or 2, the later one. No call changes it.
     pub edition: u8,
     // The module has asked for the 5 V, which the caller then gives: on only in Open, under the later edition. A loss or a detected error
-    // has them off.
+    // switches them off.
     pub power: bool,
     pub phase: Phase,
     // What the line is to be at: 9600 but in Open. The reply to the baud frame that changes it is still sent at 9600.
@@ -69,7 +69,7 @@ pub fn enter(edition: u8, phase: Phase, rate: u32, last: u32, dead: bool) -> Lin
     }
 }
 
-// A fresh record of an edition, which a return to Start gives too. The line is to be at 9600, and the 5 V off.
+// A fresh record of an edition, which a return to Start gives.
 pub fn restart(edition: u8) -> Link
     ensures { λ r. ⌜ r ≡ fresh edition ⌝ }
 {
@@ -129,7 +129,7 @@ pub struct Opening {
     pub link: Link,
 }
 
-// Opens a link for the first edition, 1, or the later one, 2.
+// Opens a link for the first edition, 1, or the later one, 2. The line is to be at 9600, and the 5 V off.
 pub fn new(edition: u8) -> Opening
     ensures { λ r. ⌜ r ≡ opening edition ⌝ }
 {

@@ -68,7 +68,7 @@ fn opened(edition: u8) -> Probe {
 }
 
 pub fn new() -> Probe {
-    opened(link_frames::FIRST_EDITION)
+    opened(link::FIRST_EDITION)
 }
 
 // An event that hands no data over.

@@ -21,9 +21,10 @@ restart-requires : tie.Need-restart-requires
 restart-requires c κs = search needs
 
 returns : tie.Need-returns
+unfolding fresh
 returns c =
     let args = c .before .before .before .args in
-    c .restart .ensures ∙ sym (when-lost (args .link) (args .tick) (sym (c .before .before .is-lost .ensures) ∙ c .before .if1 .taken))
+    rw (c .restart .ensures) (sym (when-lost (args .link) (args .tick) (sym (c .before .before .is-lost .ensures) ∙ c .before .if1 .taken)))
 
 still-dead-requires : tie.Need-still-dead-requires
 still-dead-requires c κs = search needs
