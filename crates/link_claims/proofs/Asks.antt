@@ -16,7 +16,7 @@ use Rattle.link_frames.specs.Frames.{heartbeatType, statusType, baudType, contr
 use Rattle.link_frames.specs.Reading.{whole, lacksSum, allButSum, reading}
 use Rattle.link_state.specs.Link.{byPhase, heldOf, renewed, withDead, withPower}
 use Rattle.link_state.specs.Rates.{onList}
-use Rattle.link_state.specs.Silence.{lost, checked}
+use Rattle.link_state.specs.Silence.{checked}
 use Rattle.link_state.specs.declared.Link.{Link}
 use Rattle.link_state.specs.declared.Phase.{Phase}
 use Rattle.link_state.specs.declared.Phase.the-variants.{Start, Baud, Open}
@@ -31,11 +31,10 @@ use Rattle.link_claims.specs.Frames.{Good, a-heartbeat, a-status, a-baud
 use Rattle.link_claims.specs.Same.{taken}
 use Rattle.link_claims.specs.Failures.{failing}
 use Rattle.link_claims.specs.Power.{Asks, granting, PowerIs}
-use Rattle.link_claims.proofs.Apart.{never}
 use Rattle.link_claims.proofs.Reading.{reading-is}
 use Rattle.link_claims.proofs.Outcomes.{not-lost}
 use Rattle.link_claims.proofs.Failures.{passed-sound, awake}
-use Rattle.link_claims.proofs.Ways.{moveOf, step-is, by-refusal, by-checked, by-pulled, by-received, checked-edition}
+use Rattle.link_claims.proofs.Ways.{moveOf, step-is, by-refusal, by-pulled, by-received, checked-edition}
 use Rattle.link_claims.proofs.Power.{power-is-told, power-only}
 
 -- the frame of a state

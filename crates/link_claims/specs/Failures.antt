@@ -38,25 +38,29 @@ failureOf l (byte b tick buffer) = let l′ : Link = checked l tick in byByte l�
 failureOf l (poll tick buffer) = 0
 failureOf l (send bytes tick buffer) = 0
 
--- edition, power, phase, rate, RPC and outstanding data are as they came, the frame is activity, the holder is renewed, and dead time is over; nothing is told or
--- handed over, and the status stands at the front of the buffer
+-- the record after a frame that sets the power and nothing else: edition, phase, rate, RPC and outstanding data are as they came, the frame is activity, the
+-- holder is renewed, and dead time is over
+abbrev pub afterFrame : Link → Bool → ℕ → Link
+afterFrame l on tick =
+    record {
+      edition = l .edition;
+      power = on;
+      phase = l .phase;
+      rate = l .rate;
+      last = tick;
+      dead = false;
+      rpc = l .rpc;
+      outstanding = l .outstanding;
+      held = 0;
+      kind = 0;
+      frame = atRest;
+    }
+
+-- the power is as it came too; nothing is told or handed over, and the status stands at the front of the buffer
 abbrev pub failing : ℕ → Link → ℕ → List ℕ → Step
 failing code l tick buffer =
     record {
-      link =
-          record {
-            edition = l .edition;
-            power = l .power;
-            phase = l .phase;
-            rate = l .rate;
-            last = tick;
-            dead = false;
-            rpc = l .rpc;
-            outstanding = l .outstanding;
-            held = 0;
-            kind = 0;
-            frame = atRest;
-          };
+      link = afterFrame l (l .power) tick;
       saying = nothing;
       lost = false;
       count = length (status code);

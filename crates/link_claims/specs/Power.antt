@@ -6,7 +6,6 @@ use mathlib.Core.Bool.{Bool, true, false, not, cond, _&&_}
 use mathlib.Core.Logic.{_↔_}
 use Prim.Native.Nat.{ℕ}
 use Rattle.lists.specs.Lay.{lay}
-use Rattle.link_state.specs.Link.{atRest}
 use Rattle.link_state.specs.Opening.{opening}
 use Rattle.link_state.specs.declared.Link.{Link}
 use Rattle.link_state.specs.declared.Phase.the-variants.{Open}
@@ -14,7 +13,7 @@ use Rattle.link_events.specs.Moves.{Saying, nothing, opened, handed, confirmed,
 use Rattle.link.specs.Answers.{Step, sentBy}
 use Rattle.link_claims.specs.Calls.{Call, tickOf, bufferOf, step, after}
 use Rattle.link_claims.specs.Answered.{Answer, answersTo}
-use Rattle.link_claims.specs.Failures.{failing}
+use Rattle.link_claims.specs.Failures.{afterFrame, failing}
 use Rattle.link_claims.specs.Same.{taken}
 
 -- the power after what is told: as told, off at a detected error, else as it was
@@ -42,25 +41,11 @@ pub record Asks (l : Link) (c : Call) (on : Bool) : Type 0 where
   pub connected : l .phase ≡ Open
   pub frame : taken l c ≡ cond on (0x04 ∷ 0x02 ∷ 0x06 ∷ []) (0x04 ∷ 0x03 ∷ 0x07 ∷ [])
 
--- the power is as asked for, as the caller is told, and status 0 is sent, 02 00 02; edition, phase, rate, RPC and outstanding data are as they came, the frame is
--- activity, the holder is renewed, and dead time is over
+-- the power is as asked for, and nothing else of the record changes; the caller is told, and status 0 is sent, 02 00 02
 abbrev pub granting : Bool → Link → ℕ → List ℕ → Step
 granting on l tick buffer =
     record {
-      link =
-          record {
-            edition = l .edition;
-            power = on;
-            phase = l .phase;
-            rate = l .rate;
-            last = tick;
-            dead = false;
-            rpc = l .rpc;
-            outstanding = l .outstanding;
-            held = 0;
-            kind = 0;
-            frame = atRest;
-          };
+      link = afterFrame l on tick;
       saying = powered on;
       lost = false;
       count = 3;

@@ -31,8 +31,8 @@ pub enum Event {
     // switched off if they are on, outstanding data is gone, and the other end has to pull the line again.
     DetectedError,
     // The call did nothing, for the reason of this number; the record comes back as it was, nothing is sent, and a byte is not taken.
-    // 5: the record is none that a call gave, or of an edition that there is not: open a link anew; 8: the answer buffer is under 67 bytes; and only for a send,
-    // 10: not Open, 12: dead time, 11: RPC is closed, 13: a frame of ours is unconfirmed, 14: over 64 bytes.
+    // 5: the record is none that a call gave, or of an edition that there is not: open a link anew; 8: the answer buffer is under 67
+    // bytes; and only for a send, 10: not Open, 12: dead time, 11: RPC is closed, 13: a frame of ours is unconfirmed, 14: over 64 bytes.
     Refused(u8),
 }
 

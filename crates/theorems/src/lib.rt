@@ -456,7 +456,7 @@ pub fn dead_since_baud()
 
 // To a sound link in Open, out of dead time and with nothing held, within 250 ms of the last activity: with RPC open the bytes of a data
 // frame are quiet until the last, which hands over exactly its data and sends status 0; those of a status after our send are quiet until
-// the last, which tells how our data has ended.
+// the last, which tells how our data has ended; with RPC closed, under the later edition, those of 04 02 06 and 04 03 07 switch the power.
 pub fn delivers()
     ensures { λ r. ⌜ Delivers ⌝ }
 {}
