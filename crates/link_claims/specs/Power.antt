@@ -41,7 +41,7 @@ pub record Asks (l : Link) (c : Call) (on : Bool) : Type 0 where
   pub connected : l .phase ≡ Open
   pub frame : taken l c ≡ cond on (0x04 ∷ 0x02 ∷ 0x06 ∷ []) (0x04 ∷ 0x03 ∷ 0x07 ∷ [])
 
--- the power is as asked for, and nothing else of the record changes; the caller is told, and status 0 is sent, 02 00 02
+-- the power is as asked for, and the rest of the record as after any such frame; the caller is told, and status 0 is sent, 02 00 02
 abbrev pub granting : Bool → Link → ℕ → List ℕ → Step
 granting on l tick buffer =
     record {
