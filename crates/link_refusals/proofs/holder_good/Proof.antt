@@ -21,7 +21,7 @@ returns c =
     let branch = zeros .before .before in
     let args = branch .before .args in
     let n : length (args .frame .now) ≡ 65 = search needs in
-    c .is-begun .ensures ∙ holder-begins _ _ _ (args .frame .now) n (branch .if1 .taken) (sym (zeros .zero-behind .ensures) ∙ c .before .before .if2 .taken)
+    c .is-begun .ensures ∙ holder-begins (args .edition) (args .held) (args .kind) (args .frame .now) n (branch .if1 .taken) (sym (zeros .zero-behind .ensures) ∙ c .before .before .if2 .taken)
 
 returns-2 : tie.Need-returns-2
 returns-2 c = holder-behind _ _ _ _ (c .before .before .before .if1 .taken) (sym (c .before .zero-behind .ensures) ∙ c .if2 .left)
