@@ -42,7 +42,7 @@ def packed(direction, command, word, body, size=None):
 
 
 class Chip:
-    """A fresh loader with 64 KiB of 0xFF flash, 4,096 zero words and two status bytes. `feed` answers None, or what a closed packet got."""
+    """A fresh loader with 64 KiB of 0xFF flash and 4,096 zero words. `feed` answers None, or what a closed packet got."""
 
     LENGTHS = {0x02: 16, 0x04: 4, 0x05: 16, 0x06: 8, 0x08: 36, 0x09: 16, 0x0A: 4, 0x0D: 4, 0x13: 16}
     DATA = (0x03, 0x07)

@@ -1,7 +1,6 @@
 -- What a fresh loader sends for one framed packet.
 use mathlib.Core.Path.{◌≡◌, refl}
 use mathlib.Core.List.{List}
-use mathlib.Core.Bool.{true}
 use Prim.Native.Nat.{ℕ, ◌≤◌}
 use lib.ListN.{length}
 use lib.Seq.{take_at}
@@ -13,18 +12,16 @@ use Rattle.slip_unframing.specs.Line.{step_of}
 use Rattle.slip_unframing.specs.Line.{fresh}
 use Rattle.loader_notes.specs.Notes.{Order}
 use Rattle.loader_effects.specs.Handle.{replied, handle}
-use Rattle.loader_answers.specs.Digest.{answer_bytes}
+use Rattle.loader_answers.specs.Answer.{answer_bytes}
 use Rattle.loader_answers.specs.declared.Body.{Body}
-use Rattle.loader_state.specs.Record.{status_length}
 use Rattle.loader_act.specs.Told.{taken}
 use Rattle.loader_run.specs.Step.{answer_buffer, told_of}
 use Rattle.cases.specs.Feeding.{Lending, begun, sent_count, sends}
 use Rattle.cases.proofs.Fed.{packet-fed, fresh_core, allowed_fresh}
 
 -- the answer's bytes are what is sent
-pub answered_with : (tail : ℕ) → status_length tail ≡ true → (r : Lending) (p : List ℕ) → 1 ≤ length p → length p ≤ longest → (c e v : ℕ) (b : Body) (order : Order)
-    → (handle (fresh_core r) (header (whole p))).reply ≡ replied c e v b order → sends tail r (framed p) ≡ framed (answer_bytes tail c e v b)
+pub answered_with : (r : Lending) (p : List ℕ) → 1 ≤ length p → length p ≤ longest → (c e v : ℕ) (b : Body) (order : Order)
+    → (handle (fresh_core r) (header (whole p))).reply ≡ replied c e v b order → sends r (framed p) ≡ framed (answer_bytes c e v b)
 unfolding sends begun step_of sent_count told_of answer_buffer lay
-answered_with tail good r p filled fits c e v b order h =
-    rw (packet-fed tail taken fresh (fresh_core r) r.packet r.answer (allowed_fresh tail good r) refl p filled fits, h)
-    (take_at (framed (answer_bytes tail c e v b)) _ _ refl)
+answered_with r p filled fits c e v b order h =
+    rw (packet-fed taken fresh (fresh_core r) r.packet r.answer (allowed_fresh r) refl p filled fits, h) (take_at (framed (answer_bytes c e v b)) _ _ refl)

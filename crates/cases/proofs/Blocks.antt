@@ -21,7 +21,6 @@ use Rattle.esp_begin.specs.declared.Begin.{Begin}
 use Rattle.esp_begin.proofs.Sectors.{next-block}
 use Rattle.loader_sessions.specs.declared.Session.TheVariants.{Flash}
 use Rattle.loader_effects.specs.Core.{Core}
-use Rattle.loader_state.specs.Record.{status_length}
 use Rattle.loader_run.specs.Step.{Step}
 use Rattle.grammar.specs.Grammar as grammar
 use Rattle.grammar.specs.Grammar.{flash_begin, good_block, carries}
@@ -75,30 +74,30 @@ module _ (k : ℕ) (d : List ℕ) (b : Block d) where
   unfolding carries payload
   carried = rw packet-read
 
--- a loader of that status length with k blocks taken, whose data is img, over the flash f
-record Loading (tail : ℕ) (f : List ℕ) (k : ℕ) (img : List ℕ) (s : Step) : Type 0 where
+-- a loader with k blocks taken, whose data is img, over the flash f
+record Loading (f : List ℕ) (k : ℕ) (img : List ℕ) (s : Step) : Type 0 where
   core : Core
-  idle : Idle tail s core
+  idle : Idle s core
   session : core.session ≡ Flash load k
   sizes : Sizes load k img f
   flash : core.flash ≡ loaded_up_to 8192 f (take 5000 img)
 
-begins : (tail : ℕ) → status_length tail ≡ true → (r : Lending) → length r.flash ≡ 0x10000 → Loading tail r.flash 0 [] (fed (begun tail r) (framed (begin_packet 5000 5 1024 8192)))
+begins : (r : Lending) → length r.flash ≡ 0x10000 → Loading r.flash 0 [] (fed (begun r) (framed (begin_packet 5000 5 1024 8192)))
 unfolding header command shaped sized words.half words.word flash_begin grammar.begins begin_of flash_rule counted round_up
-begins tail length-good r h =
+begins r h =
     let t = began (fresh_core r) (header (whole (begin_packet 5000 5 1024 8192))) (rw h) in
     record {
       core = _;
-      idle = idle_after (idle_fresh tail length-good r) (begin_packet 5000 5 1024 8192) (omega arith) (omega arith);
+      idle = idle_after (idle_fresh r) (begin_packet 5000 5 1024 8192) (omega arith) (omega arith);
       session = t.0;
       sizes = record { enough = omega arith; tight = omega arith; within = rw h (omega arith); image = refl };
       flash = t.1 ∙ sym (nothing_loaded 8192 r.flash);
     }
 
-next : {tail : ℕ} {f : List ℕ} {k : ℕ} {img : List ℕ} {s : Step} → Loading tail f k img s → k < 5 → (d : List ℕ) → Block d
+next : {f : List ℕ} {k : ℕ} {img : List ℕ} {s : Step} → Loading f k img s → k < 5 → (d : List ℕ) → Block d
     → all_are 0xFF (drop (5000 - k * 1024) d) ≡ true
-    → Loading tail f (k + 1) (img ++ d) (fed s (framed (data_packet k d)))
-next {tail} {f} {k} {img} {s} l lt d b padded =
+    → Loading f (k + 1) (img ++ d) (fed s (framed (data_packet k d)))
+next {f} {k} {img} {s} l lt d b padded =
     let n = packet_length k d b in
     let t = accepts l.core load k (header (whole (data_packet k d))) l.session lt (good k d b (omega arith) padded) in
     record {
@@ -118,12 +117,12 @@ no_padding : (d : List ℕ) (n : ℕ) → length d ≤ n → all_are 0xFF (drop 
 unfolding all_are
 no_padding d n h = rw (drop_of_length-le d h)
 
-module _ (tail : ℕ) (length-good : status_length tail ≡ true) (r : Lending) (h : length r.flash ≡ 0x10000) (d₀ d₁ d₂ d₃ d₄ : List ℕ)
+module _ (r : Lending) (h : length r.flash ≡ 0x10000) (d₀ d₁ d₂ d₃ d₄ : List ℕ)
     (b₀ : Block d₀) (b₁ : Block d₁) (b₂ : Block d₂) (b₃ : Block d₃) (b₄ : Block d₄) (padded : drop 904 d₄ ≡ replicate 120 0xFF) where
-  all_taken : Loading tail r.flash 5 ((((([] ++ d₀) ++ d₁) ++ d₂) ++ d₃) ++ d₄) (fed_all (begun tail r) (five_blocks d₀ d₁ d₂ d₃ d₄))
+  all_taken : Loading r.flash 5 ((((([] ++ d₀) ++ d₁) ++ d₂) ++ d₃) ++ d₄) (fed_all (begun r) (five_blocks d₀ d₁ d₂ d₃ d₄))
   unfolding all_are
   all_taken =
-      let l₁ = next (begins tail length-good r h) (omega arith) d₀ b₀ (no_padding d₀ 5000 (omega (arith, b₀.full))) in
+      let l₁ = next (begins r h) (omega arith) d₀ b₀ (no_padding d₀ 5000 (omega (arith, b₀.full))) in
       let l₂ = next l₁ (omega arith) d₁ b₁ (no_padding d₁ 3976 (omega (arith, b₁.full))) in
       let l₃ = next l₂ (omega arith) d₂ b₂ (no_padding d₂ 2952 (omega (arith, b₂.full))) in
       let l₄ = next l₃ (omega arith) d₃ b₃ (no_padding d₃ 1928 (omega (arith, b₃.full))) in
@@ -132,7 +131,7 @@ module _ (tail : ℕ) (length-good : status_length tail ≡ true) (r : Lending) 
   abbrev taken : List ℕ
   taken = (((([] ++ d₀) ++ d₁) ++ d₂) ++ d₃) ++ d₄
 
-  pub five_loaded : Loaded load taken r.flash (fed (begun tail r) (framed_all (five_blocks d₀ d₁ d₂ d₃ d₄))).flash
+  pub five_loaded : Loaded load taken r.flash (fed (begun r) (framed_all (five_blocks d₀ d₁ d₂ d₃ d₄))).flash
   five_loaded =
       let l = all_taken in
-      rw (fed-all (begun tail r) (five_blocks d₀ d₁ d₂ d₃ d₄), l.idle.is, l.flash) (loaded load taken r.flash l.sizes)
+      rw (fed-all (begun r) (five_blocks d₀ d₁ d₂ d₃ d₄), l.idle.is, l.flash) (loaded load taken r.flash l.sizes)

@@ -19,8 +19,7 @@ use Rattle.esp_parameters.specs.Parameters.{sync_rule}
 use Rattle.loader_errors.specs.Errors.{kind, plain_checks, checks, error_of}
 use Rattle.loader_effects.specs.Effects.{effect}
 use Rattle.loader_effects.specs.Handle.{carried_out, failed, handle}
-use Rattle.loader_answers.specs.Digest.{plain}
-use Rattle.loader_state.specs.Record.{status_length}
+use Rattle.loader_answers.specs.Answer.{plain}
 use Rattle.loader_notes.specs.Notes.{no_order}
 use Rattle.link_state.specs.Clock.{silence, still_dead}
 use Rattle.link_state.specs.Link.{with_dead}
@@ -45,18 +44,18 @@ pub starred : Starred
 unfolding
     checksum xored frames.frame_of framed escaped merged merged_bits packing_of pins_good pins_word pin_good pin_field two_equal
     handle carried_out failed error_of checks plain_checks first kind command shaped sized words.word words.half header
-    sync_rule same_bytes all_are effect begin_of flash_rule counted round_up status_length
+    sync_rule same_bytes all_are effect begin_of flash_rule counted round_up
 starred = record {
   case_1 = refl;
   case_2 = refl;
   case_3 = refl;
-  case_4 = λ r. answered_with 2 refl r (sync_packet 36 32) (omega arith) (omega arith) 8 0 0 plain no_order refl;
-  case_5 = λ r. answered_with 2 refl r (sync_packet 35 31) (omega arith) (omega arith) 8 0xC0 0 plain no_order refl;
+  case_4 = λ r. answered_with r (sync_packet 36 32) (omega arith) (omega arith) 8 0 0 plain no_order refl;
+  case_5 = λ r. answered_with r (sync_packet 35 31) (omega arith) (omega arith) 8 0xC0 0 plain no_order refl;
   case_6_rule = λ n. refl;
-  case_6_begin = λ r h. answered_with 2 refl r (begin_packet 5000 5 1024 8192) (omega arith) (omega arith) 2 0 0 plain no_order (rw h);
-  case_6_erased = λ tail good r h d₀ d₁ d₂ d₃ d₄ b₀ b₁ b₂ b₃ b₄ p. (five_loaded tail good r h d₀ d₁ d₂ d₃ d₄ b₀ b₁ b₂ b₃ b₄ p).erased;
-  case_7_4 = λ r. answered_with 2 refl r (begin_packet 5000 4 1024 8192) (omega arith) (omega arith) 2 0xC5 0 plain no_order refl;
-  case_7_6 = λ r. answered_with 2 refl r (begin_packet 5000 6 1024 8192) (omega arith) (omega arith) 2 0xC5 0 plain no_order refl;
+  case_6_begin = λ r h. answered_with r (begin_packet 5000 5 1024 8192) (omega arith) (omega arith) 2 0 0 plain no_order (rw h);
+  case_6_erased = λ r h d₀ d₁ d₂ d₃ d₄ b₀ b₁ b₂ b₃ b₄ p. (five_loaded r h d₀ d₁ d₂ d₃ d₄ b₀ b₁ b₂ b₃ b₄ p).erased;
+  case_7_4 = λ r. answered_with r (begin_packet 5000 4 1024 8192) (omega arith) (omega arith) 2 0xC5 0 plain no_order refl;
+  case_7_6 = λ r. answered_with r (begin_packet 5000 6 1024 8192) (omega arith) (omega arith) 2 0xC5 0 plain no_order refl;
   case_8 = refl;
   case_9 = refl;
   case_11_frame = refl;

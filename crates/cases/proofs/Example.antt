@@ -20,7 +20,6 @@ use Rattle.loader_sessions.specs.Session.{flash_open}
 use Rattle.loader_effects.specs.Core.{Core}
 use Rattle.loader_effects.specs.Effects.{effect}
 use Rattle.loader_effects.specs.Handle.{carried_out, failed, handle}
-use Rattle.loader_state.specs.Record.{status_length}
 use Rattle.loader_state.specs.Refusals.{buffer_checks, word_count}
 use Rattle.esp_begin.specs.Flash.{flash_length}
 use Rattle.loader_run.specs.Step.{buffer_lengths, told_of}
@@ -42,11 +41,11 @@ use Rattle.cases.proofs.Cuts.{runs_listed}
 below-heading : (r : Lending) (buffer : List ℕ) (ps : List (List ℕ)) (text : List ℕ) → Fit ps → lines 1 (fresh_core r) ps ≡ text
     → (runs : List (List ℕ)) → joined runs ≡ framed_all ps
     → length (heading ++ text) + longest_line ≤ length buffer → Prints (heading ++ text) buffer (listed_runs (opened r buffer) runs)
-unfolding opened begun listed status_length
+unfolding opened begun listed
 below-heading r buffer ps text fit e runs cut h =
     let k = length-lay buffer 0 heading (omega arith) in
     let p : Adds (lines 1 (fresh_core r) ps) (lay buffer 0 heading) (length heading) (listed (opened r buffer) (framed_all ps))
-    = lines_listed ps (idle_fresh 2 refl r) fit 1 (lay buffer 0 heading) (length heading) (rw e (omega arith)) (length (framed_all ps)) (omega arith) in
+    = lines_listed ps (idle_fresh r) fit 1 (lay buffer 0 heading) (length heading) (rw e (omega arith)) (length (framed_all ps)) (omega arith) in
     rw (runs_listed runs (opened r buffer), cut)
     (record { in_text = p.in_text ∙ rw e (lay-lay buffer 0 heading text (omega arith)); is_used = p.is_used ∙ rw e (omega arith) })
 

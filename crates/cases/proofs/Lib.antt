@@ -3,7 +3,6 @@ pub mod Answers
 pub mod Blocks
 pub mod Linked
 pub mod Cases
-pub mod Status
 pub mod Digests
 pub mod Pins
 pub mod Runs

@@ -24,9 +24,9 @@ use Rattle.cases.proofs.Fed.{Idle, idle_after, idle_passes, idle_told}
 use Rattle.cases.proofs.Runs.{packet-run}
 use Rattle.cases.proofs.Calls.{page_of, fed-call}
 
--- what the call that closes a packet tells, where the core is c: the listing's loader ends its answers with two status bytes
+-- what the call that closes a packet tells, where the core is c
 abbrev pub told_for : Core → List ℕ → Told
-told_for c p = told_of 2 (length p) (handle c (header (whole p))).reply
+told_for c p = told_of (length p) (handle c (header (whole p))).reply
 
 -- the lines of packets that are handled one after the other, the first with this number
 unfoldable pub lines : ℕ → Core → List (List ℕ) → List ℕ
@@ -44,7 +44,7 @@ pub record Adds (added text : List ℕ) (used : ℕ) (p : Page) : Type 0 where
   pub is_used : p.used ≡ used + length added
 
 -- a framed packet is one call of the listing
-one-call : {s : Step} {c : Core} → Idle 2 s c → (p : List ℕ) → 1 ≤ length p → length p ≤ longest
+one-call : {s : Step} {c : Core} → Idle s c → (p : List ℕ) → 1 ≤ length p → length p ≤ longest
     → (number : ℕ) (text : List ℕ) (used : ℕ) → used + longest_line ≤ length text → (more : List ℕ) (k : ℕ)
     → calls (suc k) (page_of s number text used) (framed p ++ more)
     ≡ calls k
@@ -62,7 +62,7 @@ none_left zero q = refl
 none_left (suc k) q = refl
 
 -- packets, as many calls as they have bytes or more
-pub lines_listed : (ps : List (List ℕ)) {s : Step} {c : Core} → Idle 2 s c → Fit ps → (number : ℕ) (text : List ℕ) (used : ℕ)
+pub lines_listed : (ps : List (List ℕ)) {s : Step} {c : Core} → Idle s c → Fit ps → (number : ℕ) (text : List ℕ) (used : ℕ)
     → (used + length (lines number c ps)) + longest_line ≤ length text → (k : ℕ) → length (framed_all ps) ≤ k
     → Adds (lines number c ps) text used (calls k (page_of s number text used) (framed_all ps))
 unfolding lines framed_all Fit framed

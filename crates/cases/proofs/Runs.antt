@@ -30,17 +30,17 @@ abbrev pub Passes : Step → Type 0
 Passes s = refusal s.loader (buffer_lengths s.packet s.answer s.flash s.words) ≡ 0
 
 -- a call that closes a packet does not tell its bytes as taken
-never_taken : (tail n : ℕ) (y : Reply) → told_of tail n y ≡ taken → ⊥
+never_taken : (n : ℕ) (y : Reply) → told_of n y ≡ taken → ⊥
 unfolding told_of
-never_taken tail n (nothing w) e = let z : ◌≡◌ {A = ℕ} 0 1 = cc in omega arith
-never_taken tail n (replied c x v b order) e = let z : ◌≡◌ {A = ℕ} 0 1 = cc in omega arith
+never_taken n (nothing w) e = let z : ◌≡◌ {A = ℕ} 0 1 = cc in omega arith
+never_taken n (replied c x v b order) e = let z : ◌≡◌ {A = ℕ} 0 1 = cc in omega arith
 
 closes-none : (o : Option Closed) (l : Line) (r : Loader) (packet answer flash words : List ℕ)
     → (after_byte o l r packet answer flash words).told ≡ taken → o ≡ none
 unfolding after_byte after_packet
 closes-none none l r packet answer flash words e = refl
 closes-none (some d) l r packet answer flash words e =
-    absurd (never_taken r.tail d.stored (handle (core_of r flash words) (header d.contents)).reply e)
+    absurd (never_taken d.stored (handle (core_of r flash words) (header d.contents)).reply e)
 
 -- a byte that is let pass: told as taken it closes nothing, and else a packet
 module _ (s : Step) (good : Passes s) (b : ℕ) where
@@ -90,14 +90,14 @@ unfolding framed fed
 last-call s p = sym (fed-append s (end_byte ∷ escaped p) (end_byte ∷ []))
 
 -- a framed packet is taken whole, and handled
-pub packet-run : {tail : ℕ} {s : Step} {c : Core} → Idle tail s c → (p : List ℕ) → 1 ≤ length p → length p ≤ longest → (more : List ℕ)
+pub packet-run : {s : Step} {c : Core} → Idle s c → (p : List ℕ) → 1 ≤ length p → length p ≤ longest → (more : List ℕ)
     → ran s (framed p ++ more) ≡ record { taken = length (framed p); step = fed s (framed p) }
 unfolding framed
-packet-run {tail} {s} {c} i p filled fits more =
+packet-run {s} {c} i p filled fits more =
     let last : called (fed s (end_byte ∷ escaped p)) end_byte ≡ fed s (framed p) = last-call s p in
     let told = idle_told i p filled fits in
     let n : length (end_byte ∷ escaped p) + 1 ≡ length (framed p) = omega (arith, length-append (escaped p) (end_byte ∷ [])) in
     rw (append_assoc (escaped p) (end_byte ∷ []) more)
     (takes_run (end_byte ∷ escaped p) end_byte more s (idle_passes i) (idle_takes i p filled fits)
-    (λ e. never_taken tail (length p) (handle c (header (whole p))).reply (sym told ∙ ap (λ x. x.told) (sym last) ∙ e))
+    (λ e. never_taken (length p) (handle c (header (whole p))).reply (sym told ∙ ap (λ x. x.told) (sym last) ∙ e))
     ∙ rw (n, last))

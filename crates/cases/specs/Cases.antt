@@ -6,7 +6,6 @@ use Rattle.fields.specs.Merge.{merged}
 use Rattle.pins.specs.Packer.{word, packing_of}
 use Rattle.slip_framing.specs.Frame.{framed, framed_all}
 use Rattle.esp_begin.specs.Begin.{flash_rule}
-use Rattle.loader_state.specs.Record.{status_length}
 use Rattle.link_frames.specs.Editions.{is_edition}
 use Rattle.link_frames.specs.Frames.{baud_rate, data_frame}
 use Rattle.link_state.specs.Clock.{elapsed}
@@ -26,7 +25,7 @@ five_blocks d₀ d₁ d₂ d₃ d₄ =
     begin_packet 5000 5 1024 8192
     ∷ data_packet 0 d₀ ∷ data_packet 1 d₁ ∷ data_packet 2 d₂ ∷ data_packet 3 d₃ ∷ data_packet 4 d₄ ∷ []
 
--- The loader's cases are said of a fresh loader with any buffers that refusals 1 to 4 let pass, whatever they hold: with two status bytes, as document 01 has them, where an answer's bytes are told (specs/Status has them with four), else with either length; 12 and 14 of any link record and buffer with which the call is not refused.
+-- The loader's cases are said of a fresh loader with any buffers that refusals 1 to 4 let pass, whatever they hold; 12 and 14 of any link record and buffer with which the call is not refused.
 pub record Starred : Type 0 where
   -- 1. "Checksum of no data is EF."
   pub case_1 : checksum [] ≡ 0xEF
@@ -36,30 +35,30 @@ pub record Starred : Type 0 where
   pub case_3 : framed (0xDB ∷ 0xDC ∷ []) ≡ 0xC0 ∷ 0xDB ∷ 0xDD ∷ 0xDC ∷ 0xC0 ∷ []
   -- 4. "Good SYNC: C0 01 08 02 00 00 00 00 00 00 00 C0."
   pub case_4 :
-      (r : Lending) → sends 2 r (framed (sync_packet 36 32))
+      (r : Lending) → sends r (framed (sync_packet 36 32))
       ≡ 0xC0 ∷ 0x01 ∷ 0x08 ∷ 0x02 ∷ 0x00 ∷ 0x00 ∷ 0x00 ∷ 0x00 ∷ 0x00 ∷ 0x00 ∷ 0x00 ∷ 0xC0 ∷ []
   -- 5. "SYNC with 35 bytes of body: C0 01 08 02 00 00 00 00 00 01 DB DC C0." The size field is 35 too: it is the body's length that is wrong.
   pub case_5 :
-      (r : Lending) → sends 2 r (framed (sync_packet 35 31))
+      (r : Lending) → sends r (framed (sync_packet 35 31))
       ≡ 0xC0 ∷ 0x01 ∷ 0x08 ∷ 0x02 ∷ 0x00 ∷ 0x00 ∷ 0x00 ∷ 0x00 ∷ 0x00 ∷ 0x01 ∷ 0xDB ∷ 0xDC ∷ 0xC0 ∷ []
   -- 6. "S 5000, n 5, b 1024, offset 8192 is good in 64 KiB": by the rule, and BEGIN is answered with success
   pub case_6_rule :
       (n : ℕ)
       → flash_rule (record { flash = 0x10000; words = n }) (record { size = 5000; count = 5; block = 1024; offset = 8192 }) ≡ true
   pub case_6_begin :
-      (r : Lending) → length r.flash ≡ 0x10000 → sends 2 r (framed (begin_packet 5000 5 1024 8192))
+      (r : Lending) → length r.flash ≡ 0x10000 → sends r (framed (begin_packet 5000 5 1024 8192))
       ≡ 0xC0 ∷ 0x01 ∷ 0x02 ∷ 0x02 ∷ 0x00 ∷ 0x00 ∷ 0x00 ∷ 0x00 ∷ 0x00 ∷ 0x00 ∷ 0x00 ∷ 0xC0 ∷ []
   -- "after five blocks 13192 to 16383 are 0xFF": for every flash of 64 KiB and every data of the blocks, of which the last 120 bytes, past S, have to be 0xFF
   pub case_6_erased :
-      (tail : ℕ) → status_length tail ≡ true → (r : Lending) → length r.flash ≡ 0x10000
+      (r : Lending) → length r.flash ≡ 0x10000
       → (d₀ d₁ d₂ d₃ d₄ : List ℕ) → Block d₀ → Block d₁ → Block d₂ → Block d₃ → Block d₄ → drop 904 d₄ ≡ replicate 120 0xFF
-      → take 3192 (drop 13192 (fed (begun tail r) (framed_all (five_blocks d₀ d₁ d₂ d₃ d₄))).flash) ≡ replicate 3192 0xFF
+      → take 3192 (drop 13192 (fed (begun r) (framed_all (five_blocks d₀ d₁ d₂ d₃ d₄))).flash) ≡ replicate 3192 0xFF
   -- 7. "n 4 gives C5; so does n 6."
   pub case_7_4 :
-      (r : Lending) → sends 2 r (framed (begin_packet 5000 4 1024 8192))
+      (r : Lending) → sends r (framed (begin_packet 5000 4 1024 8192))
       ≡ 0xC0 ∷ 0x01 ∷ 0x02 ∷ 0x02 ∷ 0x00 ∷ 0x00 ∷ 0x00 ∷ 0x00 ∷ 0x00 ∷ 0x01 ∷ 0xC5 ∷ 0xC0 ∷ []
   pub case_7_6 :
-      (r : Lending) → sends 2 r (framed (begin_packet 5000 6 1024 8192))
+      (r : Lending) → sends r (framed (begin_packet 5000 6 1024 8192))
       ≡ 0xC0 ∷ 0x01 ∷ 0x02 ∷ 0x02 ∷ 0x00 ∷ 0x00 ∷ 0x00 ∷ 0x00 ∷ 0x00 ∷ 0x01 ∷ 0xC5 ∷ 0xC0 ∷ []
   -- 8. "Word 12345678, value FFFF0000, mask 00FF00FF (hex): 12FF5600."
   pub case_8 : merged 0x12345678 0xFFFF0000 0x00FF00FF ≡ 0x12FF5600

@@ -16,12 +16,12 @@ pub record Lending : Type 0 where
   pub words : List ℕ
   pub pass : first (buffer_checks (buffer_lengths packet answer flash words)) ≡ 0
 
--- a fresh record with this status length, and its buffers, before any call
-unfoldable pub begun : (tail : ℕ) → Lending → Step
-begun tail r =
+-- a fresh record and its buffers, before any call
+unfoldable pub begun : Lending → Step
+begun r =
     record {
       told = taken;
-      loader = fresh_loader tail;
+      loader = fresh_loader;
       packet = r.packet;
       answer = r.answer;
       flash = r.flash;
@@ -37,11 +37,6 @@ unfoldable pub fed : Step → List ℕ → Step
 fed s [] = s
 fed s (b ∷ bs) = fed (called s b) bs
 
--- of a loader with two status bytes, and of one with four
-pub record Both (P : ℕ → Type 0) : Type 0 where
-  pub two : P 2
-  pub four : P 4
-
 -- how many bytes of answer a call tells
 unfoldable pub sent_count : Told → ℕ
 sent_count (refused n) = 0
@@ -49,6 +44,6 @@ sent_count taken = 0
 sent_count (dropped n w) = 0
 sent_count (answered n c s e sent order) = sent
 
--- the bytes that the last call of a line sends, from a fresh loader with this status length on
-unfoldable pub sends : (tail : ℕ) → Lending → List ℕ → List ℕ
-sends tail r line = take (sent_count (fed (begun tail r) line).told) (fed (begun tail r) line).answer
+-- the bytes that the last call of a line sends, from a fresh loader on
+unfoldable pub sends : Lending → List ℕ → List ℕ
+sends r line = take (sent_count (fed (begun r) line).told) (fed (begun r) line).answer

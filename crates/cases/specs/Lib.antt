@@ -2,7 +2,6 @@ pub mod Feeding
 pub mod LinkCalls
 pub mod Packets
 pub mod Cases
-pub mod Status
 pub mod Digests
 pub mod Pins
 pub mod Listing

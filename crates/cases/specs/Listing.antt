@@ -17,11 +17,11 @@ pub record Page : Type 0 where
   pub text : List ℕ
   pub used : ℕ
 
--- before the first byte: a fresh listing over a fresh loader with two status bytes, and the heading at the front of the text
+-- before the first byte: a fresh listing, and the heading at the front of the text
 unfoldable pub opened : Lending → List ℕ → Page
 opened r text =
     record {
-      listing = fresh_listing 2;
+      listing = fresh_listing;
       packet = r.packet;
       answer = r.answer;
       flash = r.flash;

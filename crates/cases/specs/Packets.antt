@@ -37,10 +37,6 @@ digest_packet address size third fourth =
     0x00 ∷ 0x13 ∷ 0x10 ∷ 0x00 ∷ 0x00 ∷ 0x00 ∷ 0x00 ∷ 0x00
     ∷ (bytes_of address ++ (bytes_of size ++ (bytes_of third ++ bytes_of fourth)))
 
--- READ_REG: "address"
-abbrev pub read_packet : ℕ → List ℕ
-read_packet address = 0x00 ∷ 0x0A ∷ 0x04 ∷ 0x00 ∷ 0x00 ∷ 0x00 ∷ 0x00 ∷ 0x00 ∷ bytes_of address
-
 -- SPI_ATTACH with this word
 abbrev pub attach_packet : ℕ → List ℕ
 attach_packet word = 0x00 ∷ 0x0D ∷ 0x04 ∷ 0x00 ∷ 0x00 ∷ 0x00 ∷ 0x00 ∷ 0x00 ∷ bytes_of word

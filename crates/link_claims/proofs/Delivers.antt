@@ -49,13 +49,13 @@ module _ (last : ℕ) (l : Link) (h : Hears last l) (tick : ℕ) (buffer : List 
   unfolding lost silence
   not-lost = rw (h.connected, h.active, lt-leb silence_time (elapsed last tick) t.soon)
 
-  same_record : with_dead l (still_dead l.dead l.last tick) ≡ l
+  same-record : with_dead l (still_dead l.dead l.last tick) ≡ l
   unfolding still_dead
-  same_record = rw h.awake
+  same-record = rw h.awake
 
   checked-same : checked l tick ≡ l
   unfolding checked
-  checked-same = rw not-lost same_record
+  checked-same = rw not-lost same-record
 
   let_pass : first (checks l (length buffer)) ≡ 0
   let_pass = checks-pass l (length buffer) (whole_again l h.good).passes t.fits

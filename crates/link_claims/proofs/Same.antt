@@ -280,8 +280,8 @@ taken-same l (send bytes tick buffer) p = refl
 link-one : {s₁ s₂ : Step} → AlikeSteps s₁ s₂ → s₁.link ≡ under first_edition s₁.link
 link-one h = ap (λ s. s.link) h.one
 
-link-two : {s₁ s₂ : Step} → AlikeSteps s₁ s₂ → s₂.link ≡ under later_edition s₁.link
-link-two h = ap (λ s. s.link) h.two
+link_two : {s₁ s₂ : Step} → AlikeSteps s₁ s₂ → s₂.link ≡ under later_edition s₁.link
+link_two h = ap (λ s. s.link) h.two
 
 same_answer : {s₁ s₂ : Step} → AlikeSteps s₁ s₂ → SameAnswer s₁ s₂
 same_answer h =
@@ -305,7 +305,7 @@ equal-from (c ∷ cs) next l p n =
     let q = both _ _ n in
     let s : AlikeSteps (step (under first_edition l) c) (step (under later_edition l) c) = step_alike l c p (not-true _ q.0) in
     let m : never_power (under first_edition (step (under first_edition l) c).link) (cs ++ (next ∷ [])) ≡ true = sym (ap (λ l. never_power l (cs ++ (next ∷ []))) (link-one s)) ∙ q.1 in
-    from-equal cs next (link-one s) (link-two s) (equal-from cs next (step (under first_edition l) c).link s.plain m)
+    from-equal cs next (link-one s) (link_two s) (equal-from cs next (step (under first_edition l) c).link s.plain m)
 
 either-from : (calls : List Call) (l : Link) → of_power (held_of l) ≡ false → never_power (under first_edition l) calls ≡ never_power (under later_edition l) calls
 unfolding never_power
@@ -318,7 +318,7 @@ either-from (c ∷ cs) l p = rw (← taken-same l c p) (by_test (of_power (taken
   by_test true e later = refl
   by_test false e later =
       let s : AlikeSteps (step (under first_edition l) c) (step (under later_edition l) c) = step_alike l c p e in
-      ap (λ l. never_power l cs) (link-one s) ∙ later s.plain ∙ sym (ap (λ l. never_power l cs) (link-two s))
+      ap (λ l. never_power l cs) (link-one s) ∙ later s.plain ∙ sym (ap (λ l. never_power l cs) (link_two s))
 
 -- ---- the condition, call by call
 never_at : (before : List Call) (c : Call) (rest : List Call) (l : Link) → never_power l (before ++ (c ∷ rest)) ≡ true → of_power (taken (after l before) c) ≡ false

@@ -1,7 +1,7 @@
 // Lists what a captured line says: a heading, and a line for each packet that it closes. The line's bytes are read to their end,
 // from the file that the argument names, or from standard input where there is none, into a fresh loader.
 use libc::{STDERR_FILENO, STDIN_FILENO, STDOUT_FILENO};
-use listing_report::{Listed, Listing, Opened};
+use listing_report::{Listed, Listing};
 
 // The lines of one write: some 40 of them. Captures fill it often, so that a full text is no rare case.
 const TEXT: usize = 512;
@@ -23,8 +23,7 @@ fn write_out(text: &[u8]) -> bool {
     false
 }
 
-// No call of this program is refused, as its status length is one of the two and its buffers are long enough; one that is ends the
-// program.
+// No call of this program is refused, as its buffers are long enough; one that is ends the program.
 fn say_refused() {
     io::write_all(STDERR_FILENO, b"listing: the loader refused the call\n");
 }
@@ -126,12 +125,7 @@ fn list_all(fd: i32, name: &[u8]) {
     let mut answer = [0u8; loader::LONGEST_ANSWER];
     let mut flash = [0xFFu8; 65536];
     let mut words = [0u32; 4096];
-    // the listing's loader ends its answers with two status bytes
-    let Opened::Ready(fresh) = listing_report::new(loader::SHORT_STATUS) else {
-        say_refused();
-        return;
-    };
-    let mut state = fresh;
+    let mut state = listing_report::new();
     let heading = listing_report::heading();
     let mut goes_on = write_out(&heading);
     let mut reads = u64::MAX;

@@ -1,32 +1,17 @@
 -- The listing a run of bytes at a time (request One): "reads line bytes .. into a fresh loader", and "a line for each closed packet", numbered from 1.
 use Rattle.std.specs.Prelude.{◌≡◌, ℕ, ◌+◌, ◌%◌, ◌^◌, cond, List, length}
 use Rattle.lists.specs.Lay.{lay}
+use Rattle.loader_state.specs.Record.{fresh_loader}
 use Rattle.loader_act.specs.Told.{Told, refused, taken, dropped, answered}
 use Rattle.loader_run.specs.RunStep.{RunStep, run_step}
 use Rattle.listing_lines.specs.Lines.{line_of, has_space}
-use Rattle.loader_state.specs.Record.{status_length, fresh_loader}
 use Rattle.listing_report.specs.declared.Listing.{Listing}
-use Rattle.listing_report.specs.declared.Opened.{Opened}
-use Rattle.listing_report.specs.declared.Opened.TheVariants as opened
 use Rattle.listing_report.specs.declared.Listed.{Listed}
 use Rattle.listing_report.specs.declared.Listed.TheVariants.{Full, Refused, Fed}
 
--- before the first byte: a fresh loader of that status length, and the first packet is number 1
-abbrev pub fresh_listing : (tail : ℕ) → Listing
-fresh_listing tail = record { loader = fresh_loader tail; number = 1 }
-
--- what opening a listing tells: the listing, or the refusal of its loader by its number
-pub data Opening : Type 0 where
-  opened_as : Listing → Opening
-  not_opened : ℕ → Opening
-
-abbrev pub opening : Opened → Opening
-opening (opened.Ready l) = opened_as l
-opening (opened.Refused n) = not_opened n
-
--- as `new` of the loader: 5 for a status length that is neither two nor four
-unfoldable pub opening_of : ℕ → Opening
-opening_of tail = cond (status_length tail) (opened_as (fresh_listing tail)) (not_opened 5)
+-- before the first byte: a fresh loader, and the first packet is number 1
+abbrev pub fresh_listing : Listing
+fresh_listing = record { loader = fresh_loader; number = 1 }
 
 -- the number of the next packet, which runs over after 2 ^ 64 of them
 unfoldable pub number_after : Told → ℕ → ℕ

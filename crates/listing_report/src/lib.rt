@@ -1,12 +1,12 @@
 // The listing of received bytes: the call that lists a run of them.
 ghost use Rattle.std.specs.Prelude.{◌≡◌};
 ghost use Rattle.loader_act.specs.Told.{told};
-ghost use Rattle.listing_report.specs.Listing.{opening, opening_of, number_after, list_report, report_of, list_step, Lists};
+ghost use Rattle.listing_report.specs.Listing.{fresh_listing, number_after, list_report, report_of, list_step, Lists};
 
 pub use listing_columns::heading;
 use listing_lines::has_space;
 pub use listing_lines::{LONGEST_LINE, Written, line};
-use loader::{Answer, Loader, Made};
+use loader::{Answer, Loader};
 
 // A loader, and the number of the next packet.
 #[derive(Drop)]
@@ -31,23 +31,13 @@ pub enum Listed {
     },
 }
 
-// What `new` answers.
-#[derive(Drop)]
-pub enum Opened {
-    // the listing before the first byte
-    Ready(Listing),
-    // the loader was not made: refused with this number, 5
-    Refused(u8),
-}
-
-// A listing over a fresh loader whose answers end with so many status bytes.
-pub fn new(tail: usize) -> Opened
-    ensures { opening result ≡ opening_of tail }
+// The listing before the first byte.
+pub fn new() -> Listing
+    ensures { result ≡ fresh_listing }
 {
-    let made = loader::new(tail);
-    match made {
-        Made::Ready(loader) => Opened::Ready(Listing { loader, number: 1 }),
-        Made::Refused(number) => Opened::Refused(number),
+    Listing {
+        loader: loader::new(),
+        number: 1,
     }
 }
 

@@ -26,10 +26,10 @@ use Rattle.loader_run.proofs.Judged.{judged_once, run_passed}
 abbrev pub later : ℕ → RunStep → RunStep
 later k x = record { taken = k + x.taken; step = x.step }
 
--- what is closed is handled by the record's session and attach word, and answered by its status length, whatever its line state is
+-- what is closed is handled by the record's session and attach word, whatever its line state is
 line_aside : (o : Option Closed) (l l' : Line) (r : Loader) (packet answer flash words : List ℕ)
     → after_byte o l r packet answer flash words
-    ≡ after_byte o l (record { line = l'; session = r.session; attach = r.attach; tail = r.tail }) packet answer flash words
+    ≡ after_byte o l (record { line = l'; session = r.session; attach = r.attach }) packet answer flash words
 unfolding after_byte
 line_aside none l l' r packet answer flash words = refl
 line_aside (some d) l l' r packet answer flash words = refl
@@ -42,7 +42,7 @@ module _
 
   -- the record after the byte step
   abbrev pub stepped-on : Loader
-  stepped-on = record { line = byte_step_lem.line; session = r.session; attach = r.attach; tail = r.tail }
+  stepped-on = record { line = byte_step_lem.line; session = r.session; attach = r.attach }
 
   -- the byte step changes no length, and holds no more than there may be: the call with the rest is let pass
   pub still-good : refusal stepped-on (buffer_lengths byte_step_lem.buffer answer flash words) ≡ 0
@@ -51,7 +51,7 @@ module _
       let p = let_pass r (buffer_lengths packet answer flash words) good in
       rw k.long
       (no_refusal stepped-on (buffer_lengths packet answer flash words)
-      (record { lent = p.lent; held = k.held p.held; session = p.session; attach = p.attach; tail = p.tail }))
+      (record { lent = p.lent; held = k.held p.held; session = p.session; attach = p.attach }))
 
   pub byte_passed :
       step r b packet answer flash words

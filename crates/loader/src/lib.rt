@@ -2,11 +2,11 @@
 ghost use Rattle.loader.specs.Step.{step, Feeds};
 
 pub use loader_act::{Answer, Fed};
-pub use loader_answers::{LONG_STATUS, LONGEST_ANSWER, SHORT_STATUS};
+pub use loader_answers::LONGEST_ANSWER;
 pub use loader_notes::Note;
 pub use loader_run::{RunFed, feed_run};
 pub use loader_sessions::Session;
-pub use loader_state::{Loader, Made, new};
+pub use loader_state::{Loader, new};
 pub use slip_unframing::Reason;
 
 // One received byte: a run of one. What is lent and what to do stand at `feed_run`.

@@ -14,7 +14,7 @@ use Rattle.esp_commands.specs.Header.{command}
 use Rattle.esp_header.specs.Classified.{classified}
 use Rattle.esp_header.specs.declared.Packet as code-packet
 use Rattle.esp_header.specs.declared.Packet.TheVariants as code
-use Rattle.loader_answers.specs.Digest.{answer_bytes}
+use Rattle.loader_answers.specs.Answer.{answer_bytes}
 use Rattle.loader_answers.specs.Reply.{Replies}
 use Rattle.loader_effects.specs.Handle.{obeyed, Does}
 use Rattle.loader_effects.specs.declared.Done.{Done}
@@ -49,23 +49,21 @@ module _
   packet-read n e = headed p (leb 8 (length p)) (eqb (get_or p 0 0) 0) n (sym is ∙ e)
 
   pub acts_read :
-      (n sent tail value left : ℕ) (done : Done) (after flash' words' : List ℕ) → x ≡ code.Read n
+      (n sent : ℕ) (done : Done) (after flash' words' : List ℕ) → x ≡ code.Read n
       → Does (obeyed (core_of loader flash words) p) (command p) done flash' words'
-      → Replies (answer_bytes tail n done.error value done.body) buffer sent after
-      → tail ≡ loader.tail → value ≡ done.value → left ≡ loader.tail
+      → Replies (answer_bytes n done.error done.value done.body) buffer sent after
       → Acts (acted (core_of loader flash words) (header (whole p))) loader (length p) buffer
       (record {
         answer = Answered (length p) n done.error sent done.note;
-        loader = record { line = loader.line; session = done.session; attach = done.attach; tail = left };
+        loader = record { line = loader.line; session = done.session; attach = done.attach };
       }) after flash' words'
   unfolding acted told_in written_in
-  acts_read n sent tail value left done after flash' words' e d answered same-tail same-value same_left =
+  acts_read n sent done after flash' words' e d r =
       let h = packet-read n e in
-      let r = rw (same-tail, same-value) at answered in
       rw h.0
       (record {
         says = rw (d.reply, r.sent, h.1);
-        hands_back = rw (d.session, d.attach, same_left);
+        hands_back = rw (d.session, d.attach);
         answer_buffer = rw (d.reply, ← h.1) r.buffer;
         in_flash = d.in_flash;
         in_words = d.in_words;

@@ -3,7 +3,7 @@ use Rattle.std.specs.Prelude.{ℕ, ◌≡◌, List}
 use Rattle.slip_framing.specs.Frame.{framing}
 use Rattle.slip_packets.specs.Packets as packets
 use Rattle.esp_commands.specs.Status.{status_of}
-use Rattle.loader_answers.specs.Digest.{answer_bytes}
+use Rattle.loader_answers.specs.Answer.{answer_bytes}
 use Rattle.loader_answers.specs.Reply.{sent_of}
 use Rattle.loader_effects.specs.Core.{Core}
 use Rattle.loader_effects.specs.Handle.{Reply, nothing, replied, Handled, obeyed}
@@ -19,21 +19,21 @@ unfoldable pub acted : Core → packets.Packet → Handled
 acted c (packets.dropped w) = record { reply = nothing w; core = c }
 acted c (packets.read p) = obeyed c p
 
--- what is told: an answer, which ends with so many status bytes, with as many bytes as the framing routine wrote to this buffer, none where it refuses
-unfoldable pub told_in : (tail : ℕ) → List ℕ → ℕ → Reply → Told
-told_in tail buffer stored (nothing w) = dropped stored w
-told_in tail buffer stored (replied c e v b order) =
-    answered stored c (status_of e) e (sent_of (framing (answer_bytes tail c e v b) buffer).report) order
+-- what is told: an answer with as many bytes as the framing routine wrote to this buffer, none where it refuses
+unfoldable pub told_in : List ℕ → ℕ → Reply → Told
+told_in buffer stored (nothing w) = dropped stored w
+told_in buffer stored (replied c e v b order) =
+    answered stored c (status_of e) e (sent_of (framing (answer_bytes c e v b) buffer).report) order
 
 -- the answer buffer as the framing routine leaves it, or as it was without an answer
-unfoldable pub written_in : (tail : ℕ) → List ℕ → Reply → List ℕ
-written_in tail buffer (nothing w) = buffer
-written_in tail buffer (replied c e v b order) = (framing (answer_bytes tail c e v b) buffer).buffer
+unfoldable pub written_in : List ℕ → Reply → List ℕ
+written_in buffer (nothing w) = buffer
+written_in buffer (replied c e v b order) = (framing (answer_bytes c e v b) buffer).buffer
 
 -- what acting on a whole packet comes to: the answer, the next record, and the buffers but for the packet buffer
 pub record Acts (h : Handled) (before : Loader) (stored : ℕ) (buffer : List ℕ) (r : Fed) (answer flash words : List ℕ) : Type 0 where
-  pub says : told r.answer ≡ told_in before.tail buffer stored h.reply
-  pub hands_back : r.loader ≡ record { line = before.line; session = h.core.session; attach = h.core.attach; tail = before.tail }
-  pub answer_buffer : answer ≡ written_in before.tail buffer h.reply
+  pub says : told r.answer ≡ told_in buffer stored h.reply
+  pub hands_back : r.loader ≡ record { line = before.line; session = h.core.session; attach = h.core.attach }
+  pub answer_buffer : answer ≡ written_in buffer h.reply
   pub in_flash : flash ≡ h.core.flash
   pub in_words : words ≡ h.core.words

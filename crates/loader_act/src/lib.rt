@@ -79,7 +79,7 @@ pub fn act(
     let done = loader_effects::obey(packet, session, loader.attach, flash, words);
     let error = done.error;
     let body = done.body;
-    let sent = loader_answers::reply(loader.tail, command, error, done.value, body, answer);
+    let sent = loader_answers::reply(command, error, done.value, body, answer);
     let line = loader.line;
     let next = done.session;
     let note = done.note;
@@ -95,7 +95,6 @@ pub fn act(
             line,
             session: next,
             attach: done.attach,
-            tail: loader.tail,
         },
     }
 }

@@ -1,16 +1,27 @@
--- "Answer: direction 1, same command, size 2, value (4 bytes, zero but for a good READ_REG), status 0 or 1, error. The error is 0 on success." Document 02, Nine: "status, error and two reserved bytes, here 0"; "two or four, .. and every answer follows it".
-use Rattle.std.specs.Prelude.{List, [], ◌∷◌, ◌++◌, ℕ, length, take}
+-- "Answer: direction 1, same command, size 2, value (4 bytes, zero but for a good READ_REG), status 0 or 1, error. The error is 0 on success." Request Four: "the body is 16 raw bytes before the two status bytes, size field 18"; "A failure has the plain two-byte body."
+use Rattle.std.specs.Prelude.{List, [], ◌∷◌, ◌++◌, true, false, cond, ℕ, length, replicate}
 use Rattle.fields.specs.Header.{header_of}
 use Rattle.esp_commands.specs.Status.{status_of}
+use Rattle.loader_answers.specs.declared.Body.{Body}
 
--- the status bytes that end an answer, as many of them as the loader's record says
-abbrev pub status_bytes : ℕ → ℕ → List ℕ
-status_bytes tail error = take tail (status_of error ∷ error ∷ 0 ∷ 0 ∷ [])
+-- the status bytes that end an answer
+abbrev pub status_bytes : ℕ → List ℕ
+status_bytes error = status_of error ∷ error ∷ []
+
+-- what stands before them: nothing, or a digest
+abbrev pub plain : Body
+plain = record { digested = false; digest = replicate 16 0 }
+
+abbrev pub with_digest : List ℕ → Body
+with_digest d = record { digested = true; digest = d }
+
+-- a digest is written as its bytes are
+abbrev pub body_bytes : Body → List ℕ
+body_bytes b = cond b.digested b.digest []
 
 -- an answer with a body of any length, its status bytes included; the size field counts them
 abbrev pub answer_with : ℕ → ℕ → List ℕ → List ℕ
 answer_with command value body = header_of 1 command (length body) value ++ body
 
--- an answer that ends with so many status bytes, and has these bytes before them
-abbrev pub answer_of : (tail command error value : ℕ) → List ℕ → List ℕ
-answer_of tail command error value body = answer_with command value (body ++ status_bytes tail error)
+abbrev pub answer_bytes : ℕ → ℕ → ℕ → Body → List ℕ
+answer_bytes command error value body = answer_with command value (body_bytes body ++ status_bytes error)

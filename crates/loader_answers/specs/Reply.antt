@@ -2,9 +2,9 @@
 use Rattle.std.specs.Prelude.{ℕ, ◌≡◌, List}
 use Rattle.slip_framing.specs.Frame.{FrameReport, refused, wrote, framing}
 
--- the least answer buffer, "2 now means under 90 bytes for both" (document 02, Nine): the longest answer is a digest's in hex, 8 bytes of header, 32 of digest and 4 of status, each escaped to at most two, between two C0
+-- the least answer buffer, "2 now means under 54 bytes" (request Four): the longest answer is a digest's, 8 bytes of header, 16 of body and 2 of status, each escaped to at most two, between two C0
 abbrev pub longest_answer : ℕ
-longest_answer = 90
+longest_answer = 54
 
 -- how many bytes are to be sent: none where the framing routine refuses
 abbrev pub sent_of : FrameReport → ℕ

@@ -1,37 +1,28 @@
 // The answer to a read packet, framed at the front of the answer buffer.
-ghost use Rattle.std.specs.Prelude.{◌≡◌, [], ◌∷◌, min};
-ghost use Rattle.esp_commands.specs.Status.{status_of};
-ghost use Rattle.loader_answers.specs.Answer.{answer_of};
-ghost use Rattle.loader_answers.specs.Digest.{plain, hex_digest, answer_bytes};
+ghost use Rattle.std.specs.Prelude.{◌≡◌, ◌++◌};
+ghost use Rattle.loader_answers.specs.Answer.{status_bytes, plain, answer_with, answer_bytes};
 ghost use Rattle.loader_answers.specs.Reply.{Replies};
 
 use esp_commands::status_of;
 use slip_framing::{Framed, LONGEST};
 
-// The least answer buffer: no answer is longer than 44 bytes, 8 of header, 32 of digest and 4 of status, each escaped to at most two,
+// The least answer buffer: no answer is longer than 26 bytes, 8 of header, 16 of digest and 2 of status, each escaped to at most two,
 // between two C0.
-pub const LONGEST_ANSWER: usize = 90;
-
-// How many status bytes end an answer: status and error, as 003 has it for a software loader.
-pub const SHORT_STATUS: usize = 2;
-
-// These and two reserved bytes, as for the ESP32 ROM loader. A digest is then in hex.
-pub const LONG_STATUS: usize = 4;
+pub const LONGEST_ANSWER: usize = 54;
 
 // The direction of an answer.
 const DIRECTION: u8 = 1;
 
-type StatusBytes = [u8; LONG_STATUS];
+// How many status bytes end an answer.
+const STATUS_LENGTH: usize = 2;
 
-type Digest = [u8; 16];
-
-type HexDigest = [u8; 32];
+type StatusBytes = [u8; STATUS_LENGTH];
 
 // What stands before the status bytes: a digest, or nothing. The digest is then not looked at; `plain` has zeros.
 #[derive(Drop)]
 pub struct Body {
     pub digested: bool,
-    pub digest: Digest,
+    pub digest: [u8; 16],
 }
 
 // Nothing before the status bytes: the plain body.
@@ -44,69 +35,38 @@ pub fn plain() -> Body
     }
 }
 
-// Status, error and two reserved bytes.
+// The status bytes that end an answer.
 fn status_bytes(error: u8) -> StatusBytes
-    ensures { result ≡ status_of error ∷ error ∷ 0 ∷ 0 ∷ [] }
+    ensures { result ≡ status_bytes error }
 {
-    [status_of(error), error, 0, 0]
+    [status_of(error), error]
 }
 
-// How many of them are written: there are no more than four.
-fn status_count(tail: usize) -> usize
-    ensures { result ≡ min tail 4 }
-{
-    if tail < LONG_STATUS {
-        tail
-    } else {
-        LONG_STATUS
-    }
-}
-
-// A digest as 32 characters.
-fn hex_digest(digest: &Digest) -> HexDigest
-    ensures { result ≡ hex_digest digest.now }
-{
-    let mut hex = [0; 32];
-    digits::write_lower(digest, &mut hex);
-    hex
-}
-
-// Writes an answer with these bytes before the status bytes; how many bytes from the front of the buffer are to be sent.
-fn send(tail: usize, command: u8, error: u8, value: u32, body: &[u8], answer: &mut [u8]) -> usize
-    ensures { Replies (answer_of tail command error value body.now) answer.old result answer.new }
+// Writes an answer with a body of any length and the status bytes behind it; how many bytes from the front of the buffer are to be sent.
+fn send(command: u8, value: u32, body: &[u8], status: &StatusBytes, answer: &mut [u8]) -> usize
+    ensures { Replies (answer_with command value (body.now ++ status.now))
+        answer.old result answer.new }
 {
     if LONGEST < body.len() {
         return 0;
     }
-    let status = status_bytes(error);
-    let count = status_count(tail);
-    let size = body.len() + count;
+    let size = body.len() + STATUS_LENGTH;
     let head = fields::header(DIRECTION, command, size as u32, value);
-    let Framed::Written(n) = slip_framing::frame_parts(&head, body, &status[..count], answer) else {
+    let Framed::Written(n) = slip_framing::frame_parts(&head, body, status, answer) else {
         return 0;
     };
     n
 }
 
-// Writes an answer that ends with `tail` status bytes; how many bytes from the front of the buffer are to be sent. Where the buffer is
-// too short for it, none; LONGEST_ANSWER bytes hold every answer.
-pub fn reply(
-    tail: usize,
-    command: u8,
-    error: u8,
-    value: u32,
-    body: Body,
-    answer: &mut [u8],
-) -> usize
-    ensures { Replies (answer_bytes tail command error value body) answer.old result answer.new }
+// Writes an answer; how many bytes from the front of the buffer are to be sent. Where the buffer is too short for it, none; LONGEST_ANSWER
+// bytes hold every answer.
+pub fn reply(command: u8, error: u8, value: u32, body: Body, answer: &mut [u8]) -> usize
+    ensures { Replies (answer_bytes command error value body) answer.old result answer.new }
 {
+    let status = status_bytes(error);
     let digest = body.digest;
     if body.digested {
-        if tail == LONG_STATUS {
-            let hex = hex_digest(&digest);
-            return send(tail, command, error, value, &hex, answer);
-        }
-        return send(tail, command, error, value, &digest, answer);
+        return send(command, value, &digest, &status, answer);
     }
-    send(tail, command, error, value, b"", answer)
+    send(command, value, b"", &status, answer)
 }

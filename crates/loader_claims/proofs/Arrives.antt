@@ -27,8 +27,6 @@ use Rattle.slip_packets.proofs.Runs.{silent_leads, closed-ends}
 use Rattle.slip_packets.proofs.Theorems.{round_trip, leaves}
 use Rattle.loader_sessions.specs.Session.{session_good}
 use Rattle.loader_effects.specs.Handle.{handle}
-use Rattle.esp_attach.specs.Pins.{attach_good}
-use Rattle.loader_state.specs.Record.{status_length}
 use Rattle.loader_state.specs.Refusals.{lengths_of, record_good}
 use Rattle.loader_state.specs.Refusals as loader
 use Rattle.loader_act.specs.Told.{taken}
@@ -103,18 +101,17 @@ pend_outside buffer l e h =
     let o : Pend buffer (line_state Outside l.held) none = outside h in
     rw (← e) at o
 
-between : (m : Machine) → BetweenPackets m.loader.line → m.loader.line.held ≤ longest → Sound (core_at m)
-    → status_length m.loader.tail ≡ true → Between m
-between m (inl e) h s t =
-    record { stretch = none; ready = record { pending = pend_outside m.buffer m.loader.line e h; sound = s; tail = t }; opens = todo_first }
-between m (inr e) h s t =
-    record { stretch = some []; ready = record { pending = rw e (pend_opened m.buffer); sound = s; tail = t }; opens = todo_again }
+between : (m : Machine) → BetweenPackets m.loader.line → m.loader.line.held ≤ longest → Sound (core_at m) → Between m
+between m (inl e) h s =
+    record { stretch = none; ready = record { pending = pend_outside m.buffer m.loader.line e h; sound = s }; opens = todo_first }
+between m (inr e) h s =
+    record { stretch = some []; ready = record { pending = rw e (pend_opened m.buffer); sound = s }; opens = todo_again }
 
 -- the machine m with another line state and packet buffer
 abbrev heard : Machine → Line → List ℕ → Machine
 heard m l buffer =
     record {
-      loader = record { line = l; session = m.loader.session; attach = m.loader.attach; tail = m.loader.tail };
+      loader = record { line = l; session = m.loader.session; attach = m.loader.attach };
       buffer = buffer;
       flash = m.flash;
       words = m.words;
@@ -126,7 +123,6 @@ pub record Quiet (m : Machine) (o : Option (List ℕ)) (cs : List Call) : Type 0
   pub ready : Ready (after m cs) stretch
   pub long : SameLengths m (after m cs)
   pub same : core_at (after m cs) ≡ core_at m
-  pub tail : (after m cs).loader.tail ≡ m.loader.tail
   pub told : told_by m cs ≡ replicate (length cs) taken
   pub rest : (bs : List ℕ) → todo o (bytes cs ++ bs) ≡ todo stretch bs
   pub held :
@@ -147,7 +143,6 @@ quiet-more m c cs o r h l buffer o' e k w q =
       ready = rw n q.ready;
       long = rw n (record { buffer = q.long.buffer ∙ k; flash = q.long.flash; words = q.long.words });
       same = ap (λ x. core_at (after x cs)) n ∙ q.same;
-      tail = ap (λ x. (after x cs).loader.tail) n ∙ q.tail;
       told = rw s (ap (λ ts. taken ∷ ts) q.told);
       rest = λ bs. w (bytes cs ++ bs) ∙ q.rest bs;
       held = λ bs. (silent_leads m.loader.line m.buffer c.byte (bytes cs ++ bs) e).after ∙ q.held bs
@@ -163,7 +158,7 @@ quiet-fed : (m : Machine) (c : Call) (cs : List Call) (o : Option (List ℕ)) �
     → Fed m.buffer o c.byte (step_of m.loader.line c.byte m.buffer) → Quiet m o (c ∷ cs)
 quiet-fed m c cs o r h a e go (still l buffer o' f k p w) =
     quiet-more m c cs o r h l buffer o' f k w
-    (go (heard m l buffer) o' (record { pending = p; sound = r.sound; tail = r.tail }) (same-all (record { buffer = k; flash = refl; words = refl }) cs a)
+    (go (heard m l buffer) o' (record { pending = p; sound = r.sound }) (same-all (record { buffer = k; flash = refl; words = refl }) cs a)
     (sym (w (bytes cs)) ∙ e))
 quiet-fed m c cs o r h a e go (closes n d f x y w) = none-closed (sym (w (bytes cs)) ∙ e)
 
@@ -175,7 +170,6 @@ quiet [] m o r a e =
       ready = r;
       long = record { buffer = refl; flash = refl; words = refl };
       same = refl;
-      tail = refl;
       told = refl;
       rest = λ bs. refl;
       held = λ bs. refl;
@@ -194,7 +188,7 @@ closed_same {n} {k} {a} {b} e =
 record ClosesOne (m : Machine) (c : Call) (p : List ℕ) : Type 0 where
   step :
       stepped m c
-      ≡ after_packet m.loader.tail (line_state Inside 0) (length p) (handle (core_at m) (header (whole p))) m.buffer c.answer
+      ≡ after_packet (line_state Inside 0) (length p) (handle (core_at m) (header (whole p))) m.buffer c.answer
   buffer : buffer_after m.loader.line m.buffer (c.byte ∷ []) ≡ m.buffer
 
 closes-one : (m : Machine) (c : Call) (p : List ℕ) (o : Option (List ℕ)) → Ready m o → passes m c ≡ true
@@ -256,8 +250,7 @@ module _ (p : List ℕ) (filled : 1 ≤ length p) (fits : length p ≤ longest) 
     begun =
         let a = both (leb m.loader.line.held longest) _ (unrefused-last m cs c unrefused) in
         let b = both (session_good _ m.loader.session) _ a.1 in
-        let d = both (attach_good m.loader.attach) _ b.1 in
-        between m between-packets (leb-true _ _ a.0) (record { session = b.0; attach = d.0 }) d.1
+        between m between-packets (leb-true _ _ a.0) (record { session = b.0; attach = b.1 })
 
     passing : AllPass m (cs ++ c ∷ [])
     passing = unrefused-all m (cs ++ c ∷ []) unrefused
@@ -282,17 +275,15 @@ module _ (p : List ℕ) (filled : 1 ≤ length p) (fits : length p ≤ longest) 
         ∙ ap (buffer_after m.loader.line m.buffer) whole-line
         ∙ (round_trip m.loader.line m.buffer p between-packets (long-enough m c (all-last m cs c passing)).packet filled fits).buffer
 
-    last_step : stepped (after m cs) c ≡ after_packet m.loader.tail (line_state Inside 0) (length p) (handle (core_at m) (header (whole p))) (lay m.buffer 0 p) c.answer
-    last_step =
-        rw (← laid, ← hushed.same)
-        (closing.step ∙ ap (λ n. after_packet n (line_state Inside 0) (length p) (handle (core_at (after m cs)) (header (whole p))) (after m cs).buffer c.answer) hushed.tail)
+    last_step : stepped (after m cs) c ≡ after_packet (line_state Inside 0) (length p) (handle (core_at m) (header (whole p))) (lay m.buffer 0 p) c.answer
+    last_step = rw (← laid, ← hushed.same) closing.step
 
     arrived : Arrived m p cs c
     unfolding after_packet
     arrived = record {
       before = hushed.told;
       last = last_step;
-      one = closing-front m cs c ∙ rw (taken_close m cs hushed.told, last_step) (closes-packet-one _ _ _ _);
+      one = closing-front m cs c ∙ rw (taken_close m cs hushed.told, last_step) (closes-packet-one _ _ _);
     }
 
 pub packet_arrives : PacketArrives

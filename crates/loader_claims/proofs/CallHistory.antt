@@ -1,7 +1,6 @@
 -- The calls that close a packet are the packets of the line, handled one after the other: of run calls, and so of byte calls.
 use mathlib.Core.Path.{◌≡◌, refl, ap}
 use mathlib.Core.List.{List, [], ◌∷◌, map}
-use mathlib.Core.Bool.{true}
 use mathlib.Core.Option.{none}
 use Prim.Native.Nat.{ℕ, zero, suc, ◌<◌}
 use native.Mathlib.Omega.{arith}
@@ -15,7 +14,6 @@ use Rattle.loader_sessions.specs.Session.{session_good}
 use Rattle.loader_effects.specs.Core.{Core}
 use Rattle.loader_effects.specs.Handle.{handle}
 use Rattle.loader_history.specs.History.{history, handled_at}
-use Rattle.loader_state.specs.Record.{status_length}
 use Rattle.loader_claims.specs.Calls.{start, closing_at}
 use Rattle.loader_claims.specs.CallHistory.{core_at, stored_at, closing_as, CallsAreHistory}
 use Rattle.loader_claims.specs.RunCalls.{RunCall, line_taken}
@@ -24,33 +22,33 @@ use Rattle.loader_claims.proofs.Passing.{closings}
 use Rattle.loader_claims.proofs.RunLine.{FollowsRuns, law_first, runs_follow}
 use Rattle.loader_claims.proofs.Line.{single, single_closings, single_line}
 
-closings-length : (tail : ℕ) (c : Core) (ss : List (List ℕ)) → length (closings tail c (map closed_as ss)) ≡ length (map classify ss)
+closings-length : (c : Core) (ss : List (List ℕ)) → length (closings c (map closed_as ss)) ≡ length (map classify ss)
 unfolding closings
-closings-length tail c [] = refl
-closings-length tail c (s ∷ ss) = ap suc (closings-length tail _ ss)
+closings-length c [] = refl
+closings-length c (s ∷ ss) = ap suc (closings-length _ ss)
 
-closings-at : (tail : ℕ) (c : Core) (ss : List (List ℕ)) (i : ℕ) → i < length (map classify ss)
-    → closing_at (closings tail c (map closed_as ss)) i ≡ closing_as tail (stored (get_or ss i [])) (handled_at (history c (map classify ss)) i)
+closings-at : (c : Core) (ss : List (List ℕ)) (i : ℕ) → i < length (map classify ss)
+    → closing_at (closings c (map closed_as ss)) i ≡ closing_as (stored (get_or ss i [])) (handled_at (history c (map classify ss)) i)
 unfolding closings closing_at closed_as classify history handled_at
-closings-at tail c [] i h = absurd (omega arith)
-closings-at tail c (s ∷ ss) zero h = refl
-closings-at tail c (s ∷ ss) (suc i) h = closings-at tail (handle c (classify s)).core ss i (omega arith)
+closings-at c [] i h = absurd (omega arith)
+closings-at c (s ∷ ss) zero h = refl
+closings-at c (s ∷ ss) (suc i) h = closings-at (handle c (classify s)).core ss i (omega arith)
 
-pub from_start : (tail : ℕ) → status_length tail ≡ true → (buffer flash words : List ℕ) (cs : List RunCall) → FollowsRuns (start tail buffer flash words) none [] cs
+pub from_start : (buffer flash words : List ℕ) (cs : List RunCall) → FollowsRuns (start buffer flash words) none [] cs
 unfolding start session_good
-from_start tail good buffer flash words cs =
-    runs_follow cs (start tail buffer flash words) none []
-    (record { pending = pend_fresh buffer; sound = record { session = refl; attach = zero-taken }; tail = good }) law_first
+from_start buffer flash words cs =
+    runs_follow cs (start buffer flash words) none []
+    (record { pending = pend_fresh buffer; sound = record { session = refl; attach = zero-taken } }) law_first
 
 pub runs_are_history : RunsAreHistory
-unfolding todo packets stored_at start
-runs_are_history tail good buffer flash words cs =
-    let c = core_at (start tail buffer flash words) in
-    let ss = stretches (line_taken (start tail buffer flash words) cs) in
-    rw (from_start tail good buffer flash words cs).closes (record { one_for_one = closings-length tail c ss; each = λ i h. closings-at tail c ss i h })
+unfolding todo packets stored_at
+runs_are_history buffer flash words cs =
+    let c = core_at (start buffer flash words) in
+    let ss = stretches (line_taken (start buffer flash words) cs) in
+    rw (from_start buffer flash words cs).closes (record { one_for_one = closings-length c ss; each = λ i h. closings-at c ss i h })
 
 pub calls_are_history : CallsAreHistory
-calls_are_history tail good buffer flash words cs =
-    let m = start tail buffer flash words in
-    rw (single_closings cs m, single_line m.loader.tail cs m [] (from_start tail good buffer flash words (map single cs)).each) at
-    (runs_are_history tail good buffer flash words (map single cs))
+calls_are_history buffer flash words cs =
+    let m = start buffer flash words in
+    rw (single_closings cs m, single_line cs m [] (from_start buffer flash words (map single cs)).each) at
+    (runs_are_history buffer flash words (map single cs))

@@ -23,25 +23,24 @@ use Rattle.loader_act.specs.Told.{refused, dropped, answered}
 use Rattle.loader.specs.Step.{step}
 use Rattle.loader_act.specs.Acts.{core_of}
 use Rattle.loader_run.specs.RunStep.{run_step, taking, refusing_run}
-use Rattle.loader_answers.specs.Digest.{plain, answer_bytes}
-use Rattle.loader_claims.specs.ChangesNothing.{Refused, RefusedChangesNothing, RunRefusedChangesNothing, EmptyRunChangesNothing, failure, failing, dropping, Closes, Errs, Failed, FailedChangesNothing, RunFailedChangesNothing}
+use Rattle.loader_claims.specs.ChangesNothing.{Refused, RefusedChangesNothing, RunRefusedChangesNothing, EmptyRunChangesNothing, failing, dropping, Closes, Errs, Failed, FailedChangesNothing, RunFailedChangesNothing}
 use Rattle.loader_state.specs.declared.Loader.{Loader}
 use Rattle.loader_run.proofs.Judged.{judged_once, run_passed, run-stopped}
 
 -- ---- a dropped packet
 
 -- what is told of a packet: that it is dropped exactly where it is, and why
-module _ (tail stored : ℕ) (c : Core) where
-  pub dropped-told : (p : Packet) (w : Reason) → p ≡ cut.dropped w → told_of tail stored (handle c p).reply ≡ dropped stored w
+module _ (stored : ℕ) (c : Core) where
+  pub dropped-told : (p : Packet) (w : Reason) → p ≡ cut.dropped w → told_of stored (handle c p).reply ≡ dropped stored w
   unfolding handle told_of
   dropped-told p w e = rw e refl
 
-  pub told-dropped : (p : Packet) (n : ℕ) (w : Reason) → told_of tail stored (handle c p).reply ≡ dropped n w → (p ≡ cut.dropped w) × (n ≡ stored)
+  pub told-dropped : (p : Packet) (n : ℕ) (w : Reason) → told_of stored (handle c p).reply ≡ dropped n w → (p ≡ cut.dropped w) × (n ≡ stored)
   unfolding handle carried_out failed told_of
   told-dropped (cut.dropped v) n w e = (cc, cc)
   told-dropped (cut.read p) n w e = by_test (eqb (error_of (lengths c) c.session p) 0) e
     where
-      by_test : (t : Bool) → told_of tail stored (cond t (carried_out c p) (failed c p (error_of (lengths c) c.session p))).reply ≡ dropped n w
+      by_test : (t : Bool) → told_of stored (cond t (carried_out c p) (failed c p (error_of (lengths c) c.session p))).reply ≡ dropped n w
           → (cut.read p ≡ cut.dropped w) × (n ≡ stored)
       by_test true e = let z : ◌≡◌ {A = ℕ} 0 1 = cc in absurd (omega arith)
       by_test false e = let z : ◌≡◌ {A = ℕ} 0 1 = cc in absurd (omega arith)
@@ -55,7 +54,7 @@ module _ (s : ByteStep) (r : Loader) (answer flash words : List ℕ) where
 
   -- and where the packet x is closed
   abbrev pub closing : ℕ → Packet → Step
-  closing stored x = after_packet r.tail s.line stored (handle (core_of r flash words) x) s.buffer answer
+  closing stored x = after_packet s.line stored (handle (core_of r flash words) x) s.buffer answer
 
   abbrev pub error : List ℕ → ℕ
   error p = error_of (lengths (core_of r flash words)) r.session p
@@ -66,17 +65,13 @@ module _ (s : ByteStep) (r : Loader) (answer flash words : List ℕ) where
   never_refused none n e = let z : ◌≡◌ {A = ℕ} 0 1 = cc in omega arith
   never_refused (some d) n e = never_told (handle (core_of r flash words) (header d.contents)).reply e
     where
-      never_told : (x : Reply) → told_of r.tail d.stored x ≡ refused n → ⊥
+      never_told : (x : Reply) → told_of d.stored x ≡ refused n → ⊥
       never_told (nothing w) e = let z : ◌≡◌ {A = ℕ} 0 1 = cc in omega arith
       never_told (replied c x v b order) e = let z : ◌≡◌ {A = ℕ} 0 1 = cc in omega arith
 
-  failure-is : (c e : ℕ) → answer_bytes r.tail c e 0 plain ≡ failure r.tail c e
-  unfolding failure
-  failure-is c e = refl
-
   pub read-fails : (stored : ℕ) (p : List ℕ) → (error p ≡ 0 → ⊥) → closing stored (cut.read p) ≡ failing s stored (command p) (error p) r answer flash words
   unfolding after_packet handle failed told_of answer_buffer
-  read-fails stored p bad = let q : eqb (error p) 0 ≡ false = ne_eqb _ 0 bad in rw (q, ← failure-is (command p) (error p), q) refl
+  read-fails stored p bad = let q : eqb (error p) 0 ≡ false = ne_eqb _ 0 bad in rw (q, q) refl
 
   dropped-drops : (stored : ℕ) (w : Reason) → closing stored (cut.dropped w) ≡ dropping s stored w r answer flash words
   unfolding after_packet handle told_of answer_buffer
@@ -97,7 +92,7 @@ module _ (s : ByteStep) (r : Loader) (answer flash words : List ℕ) where
     where
       by_test :
           (t : Bool) → eqb (error p) 0 ≡ t
-          → told_of r.tail stored (cond t (carried_out (core_of r flash words) p) (failed (core_of r flash words) p (error p))).reply ≡ answered n c status e sent order
+          → told_of stored (cond t (carried_out (core_of r flash words) p) (failed (core_of r flash words) p (error p))).reply ≡ answered n c status e sent order
           → Erred stored n c e p
       by_test true q h = let z : e ≡ 0 = cc in absurd (bad z)
       by_test false q h = record { bad = eqb-false _ 0 q; count = cc; same_command = cc; same_error = cc }
@@ -186,7 +181,7 @@ module _ (s : ByteStep) (r : Loader) (packet answer flash words : List ℕ) wher
           → Closes s r packet answer flash words n (cut.dropped w)
       by_closed none f h = let z : ◌≡◌ {A = ℕ} 0 1 = cc in absurd (omega arith)
       by_closed (some d) f h =
-          let t = told-dropped r.tail d.stored (core_of r flash words) (header d.contents) n w h in
+          let t = told-dropped d.stored (core_of r flash words) (header d.contents) n w h in
           record { unrefused = passes; closing = d; closes = f; counts = sym t.1; classifies = t.0 }
 
   pub failed_so : (x : Step) → x ≡ judged (eqb number 0) → Failed s x r packet answer flash words

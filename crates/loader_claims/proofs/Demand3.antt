@@ -24,17 +24,17 @@ use Rattle.loader_claims.proofs.CallHistory.{from_start, runs_are_history}
 use Rattle.loader_claims.proofs.Line.{single, take_singles, single_closings, single_line, single_each}
 
 -- a call tells the success of FLASH_END where its packet is so answered
-told-success : (tail n : ℕ) (r : Reply) → ends_well (told_of tail n r) ≡ end_succeeds r
+told-success : (n : ℕ) (r : Reply) → ends_well (told_of n r) ≡ end_succeeds r
 unfolding ends_well told_of end_succeeds
-told-success tail n (nothing w) = refl
-told-success tail n (replied c e v b note) = go (eqb e 0)
+told-success n (nothing w) = refl
+told-success n (replied c e v b note) = go (eqb e 0)
   where
     go : (t : Bool) → (eqb c flash_end_command && (eqb (cond t 0 1) 0 && t)) ≡ (eqb c flash_end_command && t)
     go true = refl
     go false = refl
 
 -- the two halves together
-module _ (tail : ℕ) (c : Core) (line : List ℕ) (hs : List ClosingCall) (t : TellsHistory tail c line hs) where
+module _ (c : Core) (line : List ℕ) (hs : List ClosingCall) (t : TellsHistory c line hs) where
   flash_at : (i : ℕ) → i < length (packets line) → (handled_at (history c (packets line)) i).core.flash ≡ (closing_at hs i).flash
   flash_at i h = rw (t.each i h)
 
@@ -48,23 +48,23 @@ module _ (tail : ℕ) (c : Core) (line : List ℕ) (hs : List ClosingCall) (t : 
 
 pub demand3_runs : Demand3Runs
 unfolding start flash_open session_good
-demand3_runs tail good buffer flash words cs = record {
-  each_call = (from_start tail good buffer flash words cs).each;
-  in_time = λ n. (runs_are_history tail good buffer flash words (take n cs)).one_for_one;
+demand3_runs buffer flash words cs = record {
+  each_call = (from_start buffer flash words cs).each;
+  in_time = λ n. (runs_are_history buffer flash words (take n cs)).one_for_one;
   grammatical =
-      whole tail (core_at (start tail buffer flash words)) (line_taken (start tail buffer flash words) cs) _
-      (runs_are_history tail good buffer flash words cs)
-      (packets_load (core_at (start tail buffer flash words)) refl refl (packets (line_taken (start tail buffer flash words) cs)));
+      whole (core_at (start buffer flash words)) (line_taken (start buffer flash words) cs) _
+      (runs_are_history buffer flash words cs)
+      (packets_load (core_at (start buffer flash words)) refl refl (packets (line_taken (start buffer flash words) cs)));
 }
 
 pub demand3 : Demand3
-demand3 tail good buffer flash words cs =
-    let m = start tail buffer flash words in
-    let h = demand3_runs tail good buffer flash words (map single cs) in
+demand3 buffer flash words cs =
+    let m = start buffer flash words in
+    let h = demand3_runs buffer flash words (map single cs) in
     record {
-      each_call = single_each tail cs m [] h.each_call;
+      each_call = single_each cs m [] h.each_call;
       in_time = λ n.
-          let k = demand3_runs tail good buffer flash words (map single (take n cs)) in
-          rw (take_singles n cs, single_closings (take n cs) m, single_line tail (take n cs) m [] k.each_call) at (h.in_time n);
-      grammatical = rw (single_closings cs m, single_line tail cs m [] h.each_call) at h.grammatical;
+          let k = demand3_runs buffer flash words (map single (take n cs)) in
+          rw (take_singles n cs, single_closings (take n cs) m, single_line (take n cs) m [] k.each_call) at (h.in_time n);
+      grammatical = rw (single_closings cs m, single_line cs m [] h.each_call) at h.grammatical;
     }

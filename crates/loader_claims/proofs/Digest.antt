@@ -13,14 +13,12 @@ use Rattle.fields.specs.Words.{word}
 use Rattle.fields.specs.Places.{first_word, second_word, third_word, fourth_word}
 use Rattle.lists.specs.Lay.{lay}
 use Rattle.slip_framing.specs.Frame.{framed}
-use Rattle.digits.specs.Hex.{lower_a, hex_text}
-use Rattle.digits.proofs.Texts.{text-length}
 use Rattle.digest.specs.Digest.{md5_of}
 use Rattle.digest.proofs.Length.{md5-length}
 use Rattle.esp_begin.specs.Begin.{round_up}
 use Rattle.esp_begin.proofs.Rules.{ruled as ruled-begin}
 use Rattle.esp_begin.specs.declared.Lengths.{Lengths}
-use Rattle.loader_answers.specs.Digest.{with_digest, answer_bytes}
+use Rattle.loader_answers.specs.Answer.{with_digest, answer_bytes}
 use Rattle.slip_packets.specs.Packets.{read}
 use Rattle.slip_unframing.specs.Line.{step_of, Step as ByteStep}
 use Rattle.slip_runs.specs.Run.{run_of}
@@ -40,8 +38,7 @@ use Rattle.loader_act.specs.Told.{answered}
 use Rattle.loader_act.specs.Acts.{core_of}
 use Rattle.loader_state.specs.declared.Loader.{Loader}
 use Rattle.loader_claims.specs.ChangesNothing.{failing}
-use Rattle.loader_claims.specs.Digest.{GoodWords, named, raw_answer, in_characters, hex_answer, digesting, DigestCall, DigestAnswered, RunDigestAnswered, LoadIsDigested}
-use Rattle.loader_claims.proofs.Characters.{digest_characters}
+use Rattle.loader_claims.specs.Digest.{GoodWords, named, digest_answer, digesting, DigestCall, DigestAnswered, RunDigestAnswered, LoadIsDigested}
 use Rattle.loader_claims.proofs.ChangesNothing.{closing, error, read-fails, judged, number, passed, byte_judged, run_judged}
 
 module _ (l : Lengths) (p : List ℕ) where
@@ -84,16 +81,11 @@ module _ (l : Lengths) (p : List ℕ) where
     unfolding plain_checks first
     unruled_words a n = judged_by ∙ rw (a, unruled n) refl
 
--- the answer with a digest, byte by byte, in either form
-raw_is : (d : List ℕ) → length d ≡ 16 → answer_bytes 2 spi_flash_md5_command 0 0 (with_digest d) ≡ raw_answer d
-raw_is d e =
+-- the answer with a digest, byte by byte
+answer-is : (d : List ℕ) → length d ≡ 16 → answer_bytes spi_flash_md5_command 0 0 (with_digest d) ≡ digest_answer d
+answer-is d e =
     let n : length (d ++ (0 ∷ 0 ∷ [])) ≡ 18 = rw (length-append d (0 ∷ 0 ∷ []), e) refl in
     rw n refl
-
-hex-is : (d : List ℕ) → length d ≡ 16 → in_characters d ≡ hex_text lower_a d → answer_bytes 4 spi_flash_md5_command 0 0 (with_digest d) ≡ hex_answer d
-hex-is d e same =
-    let n : length (hex_text lower_a d ++ (0 ∷ 0 ∷ 0 ∷ 0 ∷ [])) ≡ 36 = rw (length-append (hex_text lower_a d) (0 ∷ 0 ∷ 0 ∷ 0 ∷ []), text-length lower_a d, e) refl in
-    rw (n, same) refl
 
 module _ (s : ByteStep) (r : Loader) (packet answer flash words : List ℕ) where
   abbrev core : Core
@@ -111,14 +103,15 @@ module _ (s : ByteStep) (r : Loader) (packet answer flash words : List ℕ) wher
   handled p is good = let q : eqb (error_of (lengths core) r.session p) 0 ≡ true = eq-eqb _ 0 good in rw (q, is) refl
 
   read-digests :
-      (stored : ℕ) (p bytes : List ℕ) → command p ≡ spi_flash_md5_command → error_of (lengths core) r.session p ≡ 0
-      → answer_bytes r.tail spi_flash_md5_command 0 0 (with_digest (md5_of (named p flash))) ≡ bytes
-      → closing s r answer flash words stored (read p) ≡ digesting s stored bytes r answer flash words
+      (stored : ℕ) (p : List ℕ) → command p ≡ spi_flash_md5_command → error_of (lengths core) r.session p ≡ 0
+      → closing s r answer flash words stored (read p)
+      ≡ digesting s stored (md5_of (named p flash)) r answer flash words
   unfolding after_packet told_of answer_buffer
-  read-digests stored p bytes is good e =
-      ap (λ h. after_packet r.tail s.line stored h s.buffer answer) (handled p is good)
+  read-digests stored p is good =
+      let d = md5_of (named p flash) in
+      ap (λ h. after_packet s.line stored h s.buffer answer) (handled p is good)
       ∙ ap (λ (b : List ℕ). keeping (answered stored spi_flash_md5_command 0 0 (length (framed b)) no_order) s.line r s.buffer (lay answer 0 (framed b)) flash words)
-      e
+      (answer-is d (md5-length (named p flash)))
 
   digest_so : (x : Step) → x ≡ judged s r packet answer flash words (eqb (number s r packet answer flash words) 0)
       → DigestCall s x r packet answer flash words
@@ -127,9 +120,7 @@ module _ (s : ByteStep) (r : Loader) (packet answer flash words : List ℕ) wher
       let l = lengths (core_of r flash words) in
       let to : x ≡ closing s r answer flash words d.stored (read p) = passed s r packet answer flash words x so e ∙ rw (f, g) refl in
       record {
-        answers_raw = λ two a n. to ∙ read-digests d.stored p _ is (good l p r.session is a n) (rw two (raw_is (md5_of (named p flash)) (md5-length (named p flash))));
-        answers_hex = λ four a n. to
-            ∙ read-digests d.stored p _ is (good l p r.session is a n) (rw four (hex-is (md5_of (named p flash)) (md5-length (named p flash)) (digest_characters (named p flash))));
+        answers = λ a n. to ∙ read-digests d.stored p is (good l p r.session is a n);
         wrong_shape = λ a. to ∙ fails d.stored p is wrong_size (unshaped l p r.session is a) (λ h. let z : ◌≡◌ {A = ℕ} 0 1 = cc in omega arith);
         wrong_words = λ a n. to ∙ fails d.stored p is bad_parameter (unruled_words l p r.session is a n) (λ h. let z : ◌≡◌ {A = ℕ} 0 1 = cc in omega arith);
       }

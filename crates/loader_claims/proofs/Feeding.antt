@@ -71,10 +71,10 @@ module _ (s : State) (bad : refusal_at s ≡ 0 → ⊥) where
 -- ---- calls that are let pass
 
 -- a closed packet: the call is not refused
-closed-taken : (tail n : ℕ) (r : Reply) (b : ℕ) → if_refused (told_of tail n r) b ≡ []
+closed-taken : (n : ℕ) (r : Reply) (b : ℕ) → if_refused (told_of n r) b ≡ []
 unfolding told_of if_refused
-closed-taken tail n (nothing w) b = refl
-closed-taken tail n (replied c e v body order) b = refl
+closed-taken n (nothing w) b = refl
+closed-taken n (replied c e v body order) b = refl
 
 module _ (s : State) (good : refusal_at s ≡ 0) where
   abbrev m : Machine
@@ -116,14 +116,14 @@ module _ (s : State) (good : refusal_at s ≡ 0) where
     module _ {d : Closed} (e : (step_of m.loader.line b m.buffer).closed ≡ some d) where
       pub closing-step :
           stepped m (byte_call s b)
-          ≡ after_packet m.loader.tail (step_of m.loader.line b m.buffer).line d.stored (handle (core_of m.loader m.flash m.words) (header d.contents))
+          ≡ after_packet (step_of m.loader.line b m.buffer).line d.stored (handle (core_of m.loader m.flash m.words) (header d.contents))
           (step_of m.loader.line b m.buffer).buffer s.answer
       unfolding stepped after_byte
       closing-step = byte_passed m.loader b bs m.buffer s.answer m.flash m.words good ∙ rw e
 
       pub closing-taken : (one_byte s b).untaken ≡ []
       unfolding one_byte after_packet
-      closing-taken = rw closing-step (closed-taken m.loader.tail d.stored (handle (core_of m.loader m.flash m.words) (header d.contents)).reply b)
+      closing-taken = rw closing-step (closed-taken d.stored (handle (core_of m.loader m.flash m.words) (header d.contents)).reply b)
 
       closing-run : ran m (run_call s (b ∷ bs)) ≡ record { taken = 1; step = stepped m (byte_call s b) }
       unfolding ran stepped

@@ -108,9 +108,9 @@ module _ (s : State) (good : refusal_at s ≡ 0) (b : ℕ) where
       let k = keeps (core_at m) (header d.contents) p.session in
       let l = step_keeps m.loader.line b m.buffer in
       let a : longest_answer ≤ length s.answer = for_answer buffers p in
-      rw (closing-step s good b [] e, l.long, ap (λ x. x.flash) k.same_lengths, ap (λ x. x.words) k.same_lengths, answer_buffer-length m.loader.tail (core_at m) (header d.contents) s.answer a)
+      rw (closing-step s good b [] e, l.long, ap (λ x. x.flash) k.same_lengths, ap (λ x. x.words) k.same_lengths, answer_buffer-length (core_at m) (header d.contents) s.answer a)
       (no_refusal _ buffers
-      (record { lent = p.lent; held = l.held p.held; session = rw k.same_lengths at k.session; attach = k.attach p.attach; tail = p.tail }))
+      (record { lent = p.lent; held = l.held p.held; session = rw k.same_lengths at k.session; attach = k.attach p.attach }))
 
   -- any byte: it is taken, and the next is let pass
   pub byte-taken : (o : Option Closed) → (step_of s.machine.loader.line b s.machine.buffer).closed ≡ o

@@ -1,7 +1,5 @@
 pub mod ChangesNothing
-pub mod StatusBytes
 pub mod Values
-pub mod Characters
 pub mod Digest
 pub mod Passing
 pub mod RunLine
@@ -13,6 +11,5 @@ pub mod Feeding
 pub mod RunsAreBytes
 pub mod HoweverCut
 pub mod Arrives
-pub mod Tails
 pub mod RunArrives
 pub mod WorkedLoad

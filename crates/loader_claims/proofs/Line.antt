@@ -29,7 +29,7 @@ take_singles (suc n) [] = refl
 take_singles (suc n) (c ∷ cs) = ap (λ l. single c ∷ l) (take_singles n cs)
 
 module _ (m : Machine) (c : Call) where
-  pub single_step : (ran m (single c)).step ≡ stepped m c
+  single_step : (ran m (single c)).step ≡ stepped m c
   unfolding ran stepped
   single_step = one_byte_lem m.loader c.byte m.buffer c.answer m.flash m.words
 
@@ -52,16 +52,16 @@ module _ (m : Machine) (c : Call) where
   one-taken line (suc (suc n)) t = absurd (omega (arith, t.within))
 
   -- a call that is let pass takes its byte, and no other does
-  single_taken : (tail : ℕ) (line : List ℕ) → RunCalled tail line m (single c) → taken_bytes m (single c) ≡ cond (passes m c) (c.byte ∷ []) []
+  single_taken : (line : List ℕ) → RunCalled line m (single c) → taken_bytes m (single c) ≡ cond (passes m c) (c.byte ∷ []) []
   unfolding taken_bytes
-  single_taken tail line r = by_test (passes m c) refl
+  single_taken line r = by_test (passes m c) refl
     where
       by_test : (t : Bool) → passes m c ≡ t → take (ran m (single c)).taken (c.byte ∷ []) ≡ cond t (c.byte ∷ []) []
       by_test true e = one-taken line (ran m (single c)).taken (r.takes (single_passes ∙ e))
       by_test false e = rw (r.takes_none (single_passes ∙ e))
 
-  single_called : (tail : ℕ) (line : List ℕ) → RunCalled tail line m (single c) → Called tail m c
-  single_called tail line r =
+  single_called : (line : List ℕ) → RunCalled line m (single c) → Called m c
+  single_called line r =
       record {
         takes = λ h. rw single_step at (r.not_refused (single_passes ∙ h));
         sends = rw single_step at r.sends;
@@ -81,29 +81,29 @@ unfolding run_calls one_run after
 single_left [] m = refl
 single_left (c ∷ cs) m = rw (single_next m c) (single_left cs (next m c))
 
-pub single_line : (tail : ℕ) (cs : List Call) (m : Machine) (line : List ℕ) → EachRunCall tail line m (map single cs) → line_taken m (map single cs) ≡ line_bytes m cs
+pub single_line : (cs : List Call) (m : Machine) (line : List ℕ) → EachRunCall line m (map single cs) → line_taken m (map single cs) ≡ line_bytes m cs
 unfolding line_taken line_bytes EachRunCall
-single_line tail [] m line e = refl
-single_line tail (c ∷ cs) m line e =
-    let r : EachRunCall tail (line ++ taken_bytes m (single c)) (next m c) (map single cs) = rw (single_next m c) at e.1 in
-    rw (single_taken m c tail line e.0, single_next m c, single_line tail cs (next m c) _ r)
+single_line [] m line e = refl
+single_line (c ∷ cs) m line e =
+    let r : EachRunCall (line ++ taken_bytes m (single c)) (next m c) (map single cs) = rw (single_next m c) at e.1 in
+    rw (single_taken m c line e.0, single_next m c, single_line cs (next m c) _ r)
 
-pub single_each : (tail : ℕ) (cs : List Call) (m : Machine) (line : List ℕ) → EachRunCall tail line m (map single cs) → EachCall tail m cs
+pub single_each : (cs : List Call) (m : Machine) (line : List ℕ) → EachRunCall line m (map single cs) → EachCall m cs
 unfolding EachRunCall EachCall
-single_each tail [] m line e = tt
-single_each tail (c ∷ cs) m line e =
-    let r : EachRunCall tail (line ++ taken_bytes m (single c)) (next m c) (map single cs) = rw (single_next m c) at e.1 in
-    (single_called m c tail line e.0, single_each tail cs (next m c) _ r)
+single_each [] m line e = tt
+single_each (c ∷ cs) m line e =
+    let r : EachRunCall (line ++ taken_bytes m (single c)) (next m c) (map single cs) = rw (single_next m c) at e.1 in
+    (single_called m c line e.0, single_each cs (next m c) _ r)
 
 -- what is claimed of the byte calls cs from the machine m on
 pub record Follows (m : Machine) (o : Option (List ℕ)) (cs : List Call) : Type 0 where
-  pub closes : closing_calls m cs ≡ closings m.loader.tail (core_at m) (todo o (line_bytes m cs))
-  pub each : EachCall m.loader.tail m cs
+  pub closes : closing_calls m cs ≡ closings (core_at m) (todo o (line_bytes m cs))
+  pub each : EachCall m cs
 
 pub follows : (cs : List Call) (m : Machine) (o : Option (List ℕ)) → Ready m o → Follows m o cs
 follows cs m o r =
     let f = runs_follow (map single cs) m o (line_for o) r (law_for o r.pending) in
     record {
-      closes = sym (single_closings cs m) ∙ f.closes ∙ rw (single_line m.loader.tail cs m (line_for o) f.each);
-      each = single_each m.loader.tail cs m (line_for o) f.each;
+      closes = sym (single_closings cs m) ∙ f.closes ∙ rw (single_line cs m (line_for o) f.each);
+      each = single_each cs m (line_for o) f.each;
     }

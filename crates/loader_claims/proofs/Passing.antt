@@ -17,13 +17,10 @@ use Rattle.slip_packets.proofs.Invariant.{Pend, pend_held}
 use Rattle.slip_runs.specs.Run.{Run, run_of}
 use Rattle.loader_effects.specs.Core.{Core}
 use Rattle.loader_effects.specs.Handle.{Reply, nothing, replied, handle}
-use Rattle.loader_effects.proofs.Bodies.{Sixteen, sixteen}
-use Rattle.digits.specs.Hex.{lower_a}
-use Rattle.digits.proofs.Texts.{text-length}
-use Rattle.loader_answers.specs.Digest.{body_bytes, answer_bytes}
+use Rattle.loader_effects.proofs.Bodies.{Short, short}
+use Rattle.loader_answers.specs.Answer.{body_bytes, answer_bytes}
 use Rattle.loader_answers.specs.Reply.{longest_answer}
 use Rattle.loader_answers.proofs.Replies.{answer-most}
-use Rattle.loader_state.specs.Record.{status_length}
 use Rattle.loader_state.specs.Refusals.{BufferLengths, buffer_checks, lengths_of, record_good, refusal}
 use Rattle.loader.specs.Step as loader
 use Rattle.loader_act.specs.Told.{refused, taken}
@@ -33,17 +30,16 @@ use Rattle.loader_history.proofs.Lengths.{Sound}
 use Rattle.loader_claims.specs.Calls.{Machine, Call, stepped, passes, ClosingCall, closing_call, Sent}
 use Rattle.loader_claims.specs.RunCalls.{RunCall, ran, passes_run}
 use Rattle.loader_claims.specs.CallHistory.{core_at, closing_as}
-use Rattle.loader_claims.proofs.StatusBytes.{status-is}
 use Rattle.loader_claims.proofs.Values.{Valued}
 
 -- the packet that a closed stretch is
 abbrev pub packet_of : Closed → Packet
 packet_of d = header d.contents
 
--- the calls that close the packets ds, from the core c on, of a loader of that status length
-unfoldable pub closings : (tail : ℕ) → Core → List Closed → List ClosingCall
-closings tail c [] = []
-closings tail c (d ∷ ds) = closing_as tail d.stored (handle c (packet_of d)) ∷ closings tail (handle c (packet_of d)).core ds
+-- the calls that close the packets ds, from the core c on
+unfoldable pub closings : Core → List Closed → List ClosingCall
+closings c [] = []
+closings c (d ∷ ds) = closing_as d.stored (handle c (packet_of d)) ∷ closings (handle c (packet_of d)).core ds
 
 -- and what they leave
 unfoldable pub core_left : Core → List Closed → Core
@@ -54,46 +50,33 @@ core_left c (d ∷ ds) = core_left (handle c (packet_of d)).core ds
 pub record Ready (m : Machine) (o : Option (List ℕ)) : Type 0 where
   pub pending : Pend m.buffer m.loader.line o
   pub sound : Sound (core_at m)
-  pub tail : status_length m.loader.tail ≡ true
 
-pub told_never : (tail n : ℕ) (r : Reply) (k : ℕ) → told_of tail n r ≡ refused k → ⊥
+pub told_never : (n : ℕ) (r : Reply) (k : ℕ) → told_of n r ≡ refused k → ⊥
 unfolding told_of
-told_never tail n (nothing w) k e = let z : ◌≡◌ {A = ℕ} 0 1 = cc in omega arith
-told_never tail n (replied a b c d f) k e = let z : ◌≡◌ {A = ℕ} 0 1 = cc in omega arith
+told_never n (nothing w) k e = let z : ◌≡◌ {A = ℕ} 0 1 = cc in omega arith
+told_never n (replied a b c d f) k e = let z : ◌≡◌ {A = ℕ} 0 1 = cc in omega arith
 
 pub taken_never : (k : ℕ) → taken ≡ refused k → ⊥
 taken_never k e = let z : ◌≡◌ {A = ℕ} 0 1 = cc in omega arith
 
-pub closes-packet-one : (tail n : ℕ) (r : Reply) (f : List ℕ) → closing_call (told_of tail n r) f ≡ record { told = told_of tail n r; flash = f } ∷ []
+pub closes-packet-one : (n : ℕ) (r : Reply) (f : List ℕ) → closing_call (told_of n r) f ≡ record { told = told_of n r; flash = f } ∷ []
 unfolding told_of closing_call
-closes-packet-one tail n (nothing w) f = refl
-closes-packet-one tail n (replied a b c d e) f = refl
+closes-packet-one n (nothing w) f = refl
+closes-packet-one n (replied a b c d e) f = refl
 
-answer-fits : (tail : ℕ) (r : Reply) (buffer : List ℕ) → Sixteen r → longest_answer ≤ length buffer → length (answer_buffer tail r buffer) ≡ length buffer
+answer-fits : (r : Reply) (buffer : List ℕ) → Short r → longest_answer ≤ length buffer → length (answer_buffer r buffer) ≡ length buffer
 unfolding answer_buffer
-answer-fits tail (nothing w) buffer s h = refl
-answer-fits tail (replied c e v b note) buffer s h =
-    length-lay buffer 0 (framed (answer_bytes tail c e v b)) (omega (arith, answer-most tail c e v b s))
+answer-fits (nothing w) buffer s h = refl
+answer-fits (replied c e v b note) buffer s h = length-lay buffer 0 (framed (answer_bytes c e v b)) (omega (arith, answer-most c e v b s))
 
-pub answer_buffer-length : (tail : ℕ) (c : Core) (p : Packet) (buffer : List ℕ) → longest_answer ≤ length buffer
-    → length (answer_buffer tail (handle c p).reply buffer) ≡ length buffer
-answer_buffer-length tail c p buffer h = answer-fits tail (handle c p).reply buffer (sixteen c p) h
+pub answer_buffer-length : (c : Core) (p : Packet) (buffer : List ℕ) → longest_answer ≤ length buffer → length (answer_buffer (handle c p).reply buffer) ≡ length buffer
+answer_buffer-length c p buffer h = answer-fits (handle c p).reply buffer (short c p) h
 
-pub sent_by_lem : (tail n : ℕ) (r : Reply) (buffer : List ℕ) → status_length tail ≡ true → Valued r
-    → Sent tail (told_of tail n r) buffer (answer_buffer tail r buffer)
+pub sent_by_lem : (n : ℕ) (r : Reply) (buffer : List ℕ) → Valued r → Sent (told_of n r) buffer (answer_buffer r buffer)
 unfolding Sent told_of answer_buffer
-sent_by_lem tail n (nothing w) buffer good z = refl
-sent_by_lem tail n (replied c e v b note) buffer good z =
-    record {
-      value = v;
-      body = body_bytes tail b;
-      zero = z.0;
-      digest_raw = λ h two. rw (two, (z.1 h).0) (z.1 h).1;
-      digest_hex = λ h four. rw (four, (z.1 h).0) (omega (arith, text-length lower_a b.digest, (z.1 h).1));
-      plain = λ h. rw (z.2 h) refl;
-      counted = rw (status-is tail e good) refl;
-      front = rw (status-is tail e good) refl;
-    }
+sent_by_lem n (nothing w) buffer z = refl
+sent_by_lem n (replied c e v b note) buffer z =
+    record { value = v; body = body_bytes b; zero = z.0; digest = z.1; plain = z.2; counted = refl; front = refl }
 
 module _ (m : Machine) (c : Call) where
   abbrev pub buffers : BufferLengths
@@ -122,7 +105,7 @@ module _ (m : Machine) (c : Call) where
   -- where the record is sound, refusal 5 is not given
   record_good_lem : {o : Option (List ℕ)} → Ready m o → record_good (lengths_of buffers) m.loader ≡ true
   unfolding record_good
-  record_good_lem r = rw (le-leb m.loader.line.held longest (pend_held r.pending), r.sound.session, r.sound.attach) r.tail
+  record_good_lem r = rw (le-leb m.loader.line.held longest (pend_held r.pending), r.sound.session) r.sound.attach
 
   pub step-passes : {o : Option (List ℕ)} → Ready m o → passes m c ≡ true → (s : ByteStep)
       → step_of m.loader.line c.byte m.buffer ≡ s

@@ -15,21 +15,21 @@ use Rattle.loader_claims.specs.Reasons.{TellsReasons, ReasonsTold, RunReasonsTol
 use Rattle.loader_claims.proofs.ChangesNothing.{dropped-told, told-dropped}
 use Rattle.loader_claims.proofs.CallHistory.{calls_are_history, runs_are_history}
 
-module _ (tail : ℕ) (c : Core) (bytes : List ℕ) (hs : List ClosingCall) (t : TellsHistory tail c bytes hs) where
+module _ (c : Core) (bytes : List ℕ) (hs : List ClosingCall) (t : TellsHistory c bytes hs) where
   told_at : (i : ℕ) → i < length (packets bytes)
-      → (closing_at hs i).told ≡ told_of tail (stored_at bytes i) (handle (core_after c (packets bytes) i) (packet (packets bytes) i)).reply
-  told_at i h = ap (λ x. x.told) (t.each i h) ∙ ap (λ x. told_of tail (stored_at bytes i) x.reply) (history-at c (packets bytes) i h)
+      → (closing_at hs i).told ≡ told_of (stored_at bytes i) (handle (core_after c (packets bytes) i) (packet (packets bytes) i)).reply
+  told_at i h = ap (λ x. x.told) (t.each i h) ∙ ap (λ x. told_of (stored_at bytes i) x.reply) (history-at c (packets bytes) i h)
 
   tells_reasons : TellsReasons bytes hs
   tells_reasons =
       record {
         one_for_one = t.one_for_one;
-        tells = λ i w h e. told_at i h ∙ dropped-told tail (stored_at bytes i) _ (packet (packets bytes) i) w e;
-        tells_only = λ i n w h e. told-dropped tail (stored_at bytes i) _ (packet (packets bytes) i) n w (sym (told_at i h) ∙ e);
+        tells = λ i w h e. told_at i h ∙ dropped-told (stored_at bytes i) _ (packet (packets bytes) i) w e;
+        tells_only = λ i n w h e. told-dropped (stored_at bytes i) _ (packet (packets bytes) i) n w (sym (told_at i h) ∙ e);
       }
 
 pub reasons_told : ReasonsTold
-reasons_told tail good buffer flash words cs = tells_reasons tail _ _ _ (calls_are_history tail good buffer flash words cs)
+reasons_told buffer flash words cs = tells_reasons _ _ _ (calls_are_history buffer flash words cs)
 
 pub run_reasons_told : RunReasonsTold
-run_reasons_told tail good buffer flash words cs = tells_reasons tail _ _ _ (runs_are_history tail good buffer flash words cs)
+run_reasons_told buffer flash words cs = tells_reasons _ _ _ (runs_are_history buffer flash words cs)

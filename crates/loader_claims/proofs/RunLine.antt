@@ -40,9 +40,9 @@ Law line o = (bs : List ℕ) → packets (line ++ bs) ≡ packets line ++ map pa
 
 -- what is claimed of the calls cs from the machine m on, after that line
 pub record FollowsRuns (m : Machine) (o : Option (List ℕ)) (line : List ℕ) (cs : List RunCall) : Type 0 where
-  pub closes : closing_runs m cs ≡ closings m.loader.tail (core_at m) (todo o (line_taken m cs))
+  pub closes : closing_runs m cs ≡ closings (core_at m) (todo o (line_taken m cs))
   pub left : core_at (run_calls m cs).machine ≡ core_left (core_at m) (todo o (line_taken m cs))
-  pub each : EachRunCall m.loader.tail line m cs
+  pub each : EachRunCall line m cs
 
 -- ---- the line
 
@@ -106,9 +106,9 @@ module _ (line : List ℕ) (o : Option (List ℕ)) (w : Law line o) where
 called_as :
     (line : List ℕ) (m : Machine) (c : RunCall) (x : RunStep) → ran m c ≡ x
     → (passes_run m c ≡ true → (n : ℕ) → x.step.told ≡ refused n → ⊥) → (passes_run m c ≡ true → TakesUpTo line c.run x.taken)
-    → (passes_run m c ≡ false → x.taken ≡ 0) → Sent m.loader.tail x.step.told c.answer x.step.answer
+    → (passes_run m c ≡ false → x.taken ≡ 0) → Sent x.step.told c.answer x.step.answer
     → length x.step.packet ≡ length m.buffer → length x.step.answer ≡ length c.answer
-    → length x.step.flash ≡ length m.flash → length x.step.words ≡ length m.words → RunCalled m.loader.tail line m c
+    → length x.step.flash ≡ length m.flash → length x.step.words ≡ length m.words → RunCalled line m c
 called_as line m c x e n t z s p a f w =
     record {
       not_refused = rw e n;
@@ -140,7 +140,7 @@ module _ (m : Machine) (c : RunCall) (cs : List RunCall) (o : Option (List ℕ))
   abbrev opened : Line → List ℕ → Machine
   opened l after =
       record {
-        loader = record { line = l; session = m.loader.session; attach = m.loader.attach; tail = m.loader.tail };
+        loader = record { line = l; session = m.loader.session; attach = m.loader.attach };
         buffer = after;
         flash = m.flash;
         words = m.words;
@@ -151,7 +151,7 @@ module _ (m : Machine) (c : RunCall) (cs : List RunCall) (o : Option (List ℕ))
   closed d after =
       let k : Core = (handle (core_at m) (packet_of d)).core in
       record {
-        loader = record { line = line_state Inside 0; session = k.session; attach = k.attach; tail = m.loader.tail };
+        loader = record { line = line_state Inside 0; session = k.session; attach = k.attach };
         buffer = after;
         flash = k.flash;
         words = k.words;
@@ -161,7 +161,7 @@ module _ (m : Machine) (c : RunCall) (cs : List RunCall) (o : Option (List ℕ))
   unfolding closing_runs line_taken taken_bytes EachRunCall run_calls one_run next_run closing_call taking after_byte after_packet Sent closings core_left
   fed_follows h (goes_whole l after o' q k p v s) =
       let e = run-passes m c r h _ q in
-      let f = rest (opened l after) o' (line ++ c.run) (record { pending = p; sound = r.sound; tail = r.tail }) (law_silent line o w c.run o' (todo_nil p) v) in
+      let f = rest (opened l after) o' (line ++ c.run) (record { pending = p; sound = r.sound }) (law_silent line o w c.run o' (todo_nil p) v) in
       record {
         closes = rw (e, take-length c.run, v (line_taken (opened l after) cs)) f.closes;
         left = rw (e, take-length c.run, v (line_taken (opened l after) cs)) f.left;
@@ -176,22 +176,22 @@ module _ (m : Machine) (c : RunCall) (cs : List RunCall) (o : Option (List ℕ))
       let e = run-passes m c r h _ q in
       let g : Keeps (core_at m) (handle (core_at m) (packet_of d)).core = keeps (core_at m) (packet_of d) r.sound.session in
       let f = rest (closed d after) (some []) (line ++ take n c.run)
-      (record { pending = pend_opened after; sound = sound-after (core_at m) (packet_of d) r.sound; tail = r.tail })
+      (record { pending = pend_opened after; sound = sound-after (core_at m) (packet_of d) r.sound })
       (law_closing line o w (take n c.run) d v) in
       record {
         closes = rw (e, closes-packet-one)
-            (ap (λ hs. closing_as m.loader.tail d.stored (handle (core_at m) (packet_of d)) ∷ hs) f.closes
-            ∙ ap (closings m.loader.tail (core_at m)) (sym (v (line_taken (closed d after) cs))));
+            (ap (λ hs. closing_as d.stored (handle (core_at m) (packet_of d)) ∷ hs) f.closes
+            ∙ ap (closings (core_at m)) (sym (v (line_taken (closed d after) cs))));
         left = rw e (f.left ∙ ap (core_left (core_at m)) (sym (v (line_taken (closed d after) cs))));
         each = rw e (
-          called_as line m c _ e (λ _. told_never _ _ _)
+          called_as line m c _ e (λ _. told_never _ _)
               (λ _. record {
                 within = b;
                 no_further = λ j u. silent-count line o w (take j c.run) (s j u);
                 no_less = inr (closing-count line o w (take n c.run) d v);
               })
-              (λ t. absurd_test (sym t ∙ h)) (sent_by_lem _ _ _ c.answer r.tail (valued (core_at m) (packet_of d))) k
-              (answer_buffer-length m.loader.tail (core_at m) (packet_of d) c.answer (run-long-enough m c h).answer)
+              (λ t. absurd_test (sym t ∙ h)) (sent_by_lem _ _ c.answer (valued (core_at m) (packet_of d))) k
+              (answer_buffer-length (core_at m) (packet_of d) c.answer (run-long-enough m c h).answer)
               (ap (λ l. l.flash) g.same_lengths) (ap (λ l. l.words) g.same_lengths),
           f.each,
         );

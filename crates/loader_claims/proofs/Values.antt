@@ -8,6 +8,7 @@ use lib.Dec.{eqb}
 use lib.ListN.{length}
 use Rattle.lists.proofs.Tests.{absurd_test, both}
 use Rattle.digest.proofs.Length.{md5-length}
+use Rattle.loader_answers.specs.Answer.{body_bytes}
 use Rattle.slip_packets.specs.Packets.{Packet, dropped, read}
 use Rattle.esp_commands.specs.Numbers.{read_reg_command, spi_flash_md5_command}
 use Rattle.esp_commands.specs.Header.{command}
@@ -22,12 +23,12 @@ abbrev pub Valued : Reply → Type 0
 Valued (nothing w) = Unit {0}
 Valued (replied c e v b note) =
     ((eqb c read_reg_command && eqb e 0) ≡ false → v ≡ 0)
-    × ((eqb c spi_flash_md5_command && eqb e 0) ≡ true → (b.digested ≡ true) × (length b.digest ≡ 16))
-    × ((eqb c spi_flash_md5_command && eqb e 0) ≡ false → b.digested ≡ false)
+    × ((eqb c spi_flash_md5_command && eqb e 0) ≡ true → length (body_bytes b) ≡ 16)
+    × ((eqb c spi_flash_md5_command && eqb e 0) ≡ false → body_bytes b ≡ [])
 
 module _ (c : Core) (p : List ℕ) where
   by_kind : (n : ℕ) (k : Kind) → Is n k
-      → (eqb n read_reg_command ≡ false → (effect k c p).value ≡ 0) × (eqb n spi_flash_md5_command ≡ false → (effect k c p).body.digested ≡ false)
+      → (eqb n read_reg_command ≡ false → (effect k c p).value ≡ 0) × (eqb n spi_flash_md5_command ≡ false → body_bytes (effect k c p).body ≡ [])
   unfolding effect
   by_kind n _ (is-flash_begin _) = ((λ _. refl), (λ _. refl))
   by_kind n _ (is-flash_data _) = ((λ _. refl), (λ _. refl))
@@ -42,10 +43,9 @@ module _ (c : Core) (p : List ℕ) where
   by_kind n _ (is-flash-digest e) = ((λ _. refl), (λ h. absurd_test (sym h ∙ eq-eqb n spi_flash_md5_command e)))
   by_kind n _ is-unknown = ((λ _. refl), (λ _. refl))
 
-  digest_body : (n : ℕ) → eqb n spi_flash_md5_command ≡ true
-      → ((effect (kind n) c p).body.digested ≡ true) × (length (effect (kind n) c p).body.digest ≡ 16)
+  digest_body : (n : ℕ) → eqb n spi_flash_md5_command ≡ true → length (body_bytes (effect (kind n) c p).body) ≡ 16
   unfolding kind effect
-  digest_body n h = rw (eqb-true n spi_flash_md5_command h) (refl, md5-length _)
+  digest_body n h = rw (eqb-true n spi_flash_md5_command h) (md5-length _)
 
 good-test : (t : Bool) → (t && true) ≡ false → t ≡ false
 good-test true h = h

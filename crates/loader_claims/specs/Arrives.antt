@@ -41,9 +41,9 @@ pub record Arrived (m : Machine) (p : List ℕ) (cs : List Call) (c : Call) : Ty
   -- the last call is the packet p handled: what it tells and answers, the record, flash and words are those of `handle`, and p stands at the front of the packet buffer
   pub last :
       stepped (after m cs) c
-      ≡ after_packet m.loader.tail (line_state Inside 0) (length p) (handle (core_at m) (header (whole p))) (lay m.buffer 0 p) c.answer
+      ≡ after_packet (line_state Inside 0) (length p) (handle (core_at m) (header (whole p))) (lay m.buffer 0 p) c.answer
   -- no other call closes a packet
-  pub one : closing_calls m (cs ++ c ∷ []) ≡ closing_as m.loader.tail (length p) (handle (core_at m) (header (whole p))) ∷ []
+  pub one : closing_calls m (cs ++ c ∷ []) ≡ closing_as (length p) (handle (core_at m) (header (whole p))) ∷ []
 
 -- From every machine between packets that refuses none of the calls: a packet of 1 to 4,120 bytes arrives with the calls whose bytes are its frame.
 abbrev pub PacketArrives : Type 0

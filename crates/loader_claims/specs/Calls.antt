@@ -1,5 +1,5 @@
 -- Lists of byte calls: "each gets any byte, any answer room, and the record, flash, memory and packet room as the call before left them."
-use Rattle.std.specs.Prelude.{◌≡◌, List, [], ◌∷◌, ◌++◌, Bool, true, false, cond, ◌&&◌, ℕ, ◌-◌, nat_eq, length, get_or, replicate}
+use Rattle.std.specs.Prelude.{◌≡◌, List, [], ◌∷◌, ◌++◌, Bool, true, false, cond, ◌&&◌, ℕ, nat_eq, length, get_or}
 use Rattle.lists.specs.Checks.{first}
 use Rattle.lists.specs.Lay.{lay}
 use Rattle.slip_framing.specs.Frame.{framed}
@@ -24,9 +24,9 @@ pub record Call : Type 0 where
   pub byte : ℕ
   pub answer : List ℕ
 
--- "Start with a fresh record and any flash, memory and packet room, of any length.": the record that `new` makes, with a status length of two or four
-unfoldable pub start : (tail : ℕ) → List ℕ → List ℕ → List ℕ → Machine
-start tail buffer flash words = record { loader = fresh_loader tail; buffer = buffer; flash = flash; words = words }
+-- "Start with a fresh record and any flash, memory and packet room, of any length."
+unfoldable pub start : List ℕ → List ℕ → List ℕ → Machine
+start buffer flash words = record { loader = fresh_loader; buffer = buffer; flash = flash; words = words }
 
 -- the call's step is the definition that the contract of `feed` cites
 unfoldable pub stepped : Machine → Call → Step
@@ -77,38 +77,35 @@ ends_well taken = false
 ends_well (dropped n w) = false
 ends_well (answered n c s e sent order) = nat_eq c flash_end_command && (nat_eq s 0 && nat_eq e 0)
 
--- the answer buffer where a loader of that status length answered a command: the answer with the command, status and error told, framed at its front, and its length told
-pub record AnswerSent (tail command status error sent : ℕ) (before after : List ℕ) : Type 0 where
+-- the answer buffer where a command was answered: the answer with the command, status and error told, framed at its front, and its length told
+pub record AnswerSent (command status error sent : ℕ) (before after : List ℕ) : Type 0 where
   pub value : ℕ
   -- what stands before the status bytes
   pub body : List ℕ
   -- "value (4 bytes, zero but for a good READ_REG)"
   pub zero : (nat_eq command read_reg_command && nat_eq error 0) ≡ false → value ≡ 0
-  -- "16 raw bytes before the two status bytes" of a good SPI_FLASH_MD5 (document 02, Four), "With four, .. 32 lower-case hex characters" (Nine); which ones says specs/Digest
-  pub digest_raw : (nat_eq command spi_flash_md5_command && nat_eq error 0) ≡ true → tail ≡ 2 → length body ≡ 16
-  pub digest_hex : (nat_eq command spi_flash_md5_command && nat_eq error 0) ≡ true → tail ≡ 4 → length body ≡ 32
-  -- and none of another command; "A failure has the plain two-byte body", or the four bytes of Nine
+  -- "16 raw bytes before the two status bytes" of a good SPI_FLASH_MD5 (request Four), and none of another command; "A failure has the plain two-byte body." Which sixteen says specs/Digest.
+  pub digest : (nat_eq command spi_flash_md5_command && nat_eq error 0) ≡ true → length body ≡ 16
   pub plain : (nat_eq command spi_flash_md5_command && nat_eq error 0) ≡ false → body ≡ []
-  -- "status, error and two reserved bytes, here 0": these where there are four
-  pub counted : sent ≡ length (framed (answer_with command value (body ++ (status ∷ error ∷ replicate (tail - 2) 0))))
-  pub front : after ≡ lay before 0 (framed (answer_with command value (body ++ (status ∷ error ∷ replicate (tail - 2) 0))))
+  pub counted : sent ≡ length (framed (answer_with command value (body ++ (status ∷ error ∷ []))))
+  pub front : after ≡ lay before 0 (framed (answer_with command value (body ++ (status ∷ error ∷ []))))
 
 -- "On both lines what is sent, framed, fills the front of answer room; the rest, or all of it without an answer, stays.": what is told is what is sent
-unfoldable pub Sent : (tail : ℕ) → Told → List ℕ → List ℕ → Type 0
-Sent tail (refused n) before after = after ≡ before
-Sent tail taken before after = after ≡ before
-Sent tail (dropped n w) before after = after ≡ before
-Sent tail (answered n c s e sent order) before after = AnswerSent tail c s e sent before after
+unfoldable pub Sent : Told → List ℕ → List ℕ → Type 0
+Sent (refused n) before after = after ≡ before
+Sent taken before after = after ≡ before
+Sent (dropped n w) before after = after ≡ before
+Sent (answered n c s e sent order) before after = AnswerSent c s e sent before after
 
--- what is claimed of one call of a loader that was made with that status length: it takes its byte where refusals 1 to 4 let it pass, it sends what it tells, and every buffer keeps its length
-pub record Called (tail : ℕ) (m : Machine) (c : Call) : Type 0 where
+-- what is claimed of one call: it takes its byte where refusals 1 to 4 let it pass, it sends what it tells, and every buffer keeps its length
+pub record Called (m : Machine) (c : Call) : Type 0 where
   pub takes : passes m c ≡ true → (n : ℕ) → (stepped m c).told ≡ refused n → ⊥
-  pub sends : Sent tail (stepped m c).told c.answer (stepped m c).answer
+  pub sends : Sent (stepped m c).told c.answer (stepped m c).answer
   pub packet_length : length (stepped m c).packet ≡ length m.buffer
   pub answer_length : length (stepped m c).answer ≡ length c.answer
   pub flash_length : length (stepped m c).flash ≡ length m.flash
   pub words_length : length (stepped m c).words ≡ length m.words
 
-unfoldable pub EachCall : (tail : ℕ) → Machine → List Call → Type 0
-EachCall tail m [] = Unit {0}
-EachCall tail m (c ∷ cs) = Called tail m c × EachCall tail (next m c) cs
+unfoldable pub EachCall : Machine → List Call → Type 0
+EachCall m [] = Unit {0}
+EachCall m (c ∷ cs) = Called m c × EachCall (next m c) cs

@@ -10,7 +10,7 @@ use Rattle.slip_unframing.specs.declared.Reason.{Reason}
 use Rattle.slip_runs.specs.Run.{run_of}
 use Rattle.esp_commands.specs.Header.{command}
 use Rattle.loader_errors.specs.Errors.{error_of}
-use Rattle.loader_answers.specs.Digest.{plain, answer_bytes}
+use Rattle.loader_answers.specs.Answer.{plain, answer_bytes}
 use Rattle.loader_effects.specs.Core.{lengths}
 use Rattle.loader_notes.specs.Notes.{Order, no_order}
 use Rattle.loader_state.specs.Refusals.{refusal}
@@ -57,15 +57,11 @@ EmptyRunChangesNothing =
       step = record { told = taken; loader = r; packet = packet; answer = answer; flash = flash; words = words };
     }
 
--- the answer to a command c that fails with the error e: "A failure has the plain two-byte body", or the four bytes of document 02, Nine
-unfoldable pub failure : (tail c e : ℕ) → List ℕ
-failure tail c e = answer_bytes tail c e 0 plain
-
--- such a command is answered so; the line and the packet buffer are as the line bytes leave them, which come to s; all else stays
+-- a command c that fails with the error e is answered ("A failure has the plain two-byte body."); the line and the packet buffer are as the line bytes leave them, which come to s; all else stays
 abbrev pub failing : ByteStep → (stored c e : ℕ) → Loader → (answer flash words : List ℕ) → Step
 failing s stored c e r answer flash words =
-    keeping (answered stored c 1 e (length (framed (failure r.tail c e))) no_order) s.line r s.buffer
-    (lay answer 0 (framed (failure r.tail c e))) flash words
+    keeping (answered stored c 1 e (length (framed (answer_bytes c e 0 plain))) no_order) s.line r s.buffer
+    (lay answer 0 (framed (answer_bytes c e 0 plain))) flash words
 
 -- a dropped packet is told, with its reason, and not answered
 abbrev pub dropping : ByteStep → (stored : ℕ) → Reason → Loader → (answer flash words : List ℕ) → Step

@@ -1,5 +1,5 @@
 -- The digest command (request Four): what a call that closes a read SPI_FLASH_MD5 comes to, whatever session is open.
-use Rattle.std.specs.Prelude.{◌≡◌, List, [], ◌∷◌, ◌++◌, true, false, ℕ, ◌+◌, ◌/◌, ◌%◌, ◌≤◌, length, take, drop, get_or}
+use Rattle.std.specs.Prelude.{◌≡◌, List, [], ◌∷◌, ◌++◌, true, false, ℕ, ◌+◌, ◌≤◌, length, take, drop}
 use Rattle.std.proofs.Math.Option.{some}
 use Rattle.lists.specs.Lay.{lay}
 use Rattle.fields.specs.Words.{word}
@@ -35,40 +35,22 @@ pub record GoodWords (p : List ℕ) (n : ℕ) : Type 0 where
 abbrev pub named : List ℕ → List ℕ → List ℕ
 named p flash = take (word p second_word) (drop (word p first_word) flash)
 
--- "the body is 16 raw bytes before the two status bytes, size field 18" (document 02, Four), and the value is 0
-abbrev pub raw_answer : List ℕ → List ℕ
-raw_answer d = 0x01 ∷ 0x13 ∷ 0x12 ∷ 0x00 ∷ 0x00 ∷ 0x00 ∷ 0x00 ∷ 0x00 ∷ (d ++ (0x00 ∷ 0x00 ∷ []))
+-- "the body is 16 raw bytes before the two status bytes, size field 18", and the value is 0
+abbrev pub digest_answer : List ℕ → List ℕ
+digest_answer d = 0x01 ∷ 0x13 ∷ 0x12 ∷ 0x00 ∷ 0x00 ∷ 0x00 ∷ 0x00 ∷ 0x00 ∷ (d ++ (0x00 ∷ 0x00 ∷ []))
 
--- the characters 0 to 9 and a to f, each at its digit's place
-abbrev pub hex_characters : List ℕ
-hex_characters =
-    0x30 ∷ 0x31 ∷ 0x32 ∷ 0x33 ∷ 0x34 ∷ 0x35 ∷ 0x36 ∷ 0x37 ∷ 0x38 ∷ 0x39 ∷ 0x61 ∷ 0x62 ∷ 0x63 ∷ 0x64 ∷ 0x65 ∷ 0x66 ∷ []
-
--- two characters for each byte, that of its higher half first
-unfoldable pub in_characters : List ℕ → List ℕ
-in_characters [] = []
-in_characters (b ∷ bs) = get_or hex_characters (b / 16) 0 ∷ get_or hex_characters (b % 16) 0 ∷ in_characters bs
-
--- "With four, the digest is 32 lower-case hex characters" (Nine): with the four status bytes the size field is 36
-abbrev pub hex_answer : List ℕ → List ℕ
-hex_answer d =
-    0x01 ∷ 0x13 ∷ 0x24 ∷ 0x00 ∷ 0x00 ∷ 0x00 ∷ 0x00 ∷ 0x00 ∷ (in_characters d ++ (0x00 ∷ 0x00 ∷ 0x00 ∷ 0x00 ∷ []))
-
--- these bytes are answered with success; the line and the packet buffer are as the line bytes leave them, which come to s; all else stays
-abbrev pub digesting : ByteStep → (stored : ℕ) → (bytes : List ℕ) → Loader → (answer flash words : List ℕ) → Step
-digesting s stored bytes r answer flash words =
-    keeping (answered stored spi_flash_md5_command 0 0 (length (framed bytes)) no_order) s.line r s.buffer
-    (lay answer 0 (framed bytes)) flash words
+-- the digest d is answered; the line and the packet buffer are as the line bytes leave them, which come to s; all else stays
+abbrev pub digesting : ByteStep → (stored : ℕ) → (d : List ℕ) → Loader → (answer flash words : List ℕ) → Step
+digesting s stored d r answer flash words =
+    keeping (answered stored spi_flash_md5_command 0 0 (length (framed (digest_answer d))) no_order) s.line r s.buffer
+    (lay answer 0 (framed (digest_answer d))) flash words
 
 -- of a call whose line bytes come to s, that is let pass and comes to x, and closes a packet p that is read, with this command
 pub record Digests (s : ByteStep) (x : Step) (r : Loader) (answer flash words : List ℕ) (stored : ℕ) (p : List ℕ) : Type 0 where
-  -- a good one is answered with the digest of the bytes that it names, in the form that goes with the status length
-  pub answers_raw :
-      r.tail ≡ 2 → shaped four_words p ≡ true → GoodWords p (length flash)
-      → x ≡ digesting s stored (raw_answer (md5_of (named p flash))) r answer flash words
-  pub answers_hex :
-      r.tail ≡ 4 → shaped four_words p ≡ true → GoodWords p (length flash)
-      → x ≡ digesting s stored (hex_answer (md5_of (named p flash))) r answer flash words
+  -- a good one is answered with the digest of the bytes that it names
+  pub answers :
+      shaped four_words p ≡ true → GoodWords p (length flash)
+      → x ≡ digesting s stored (md5_of (named p flash)) r answer flash words
   -- and every other fails: 0xC0 for its shape, then 0xC5 for its words
   pub wrong_shape : shaped four_words p ≡ false → x ≡ failing s stored spi_flash_md5_command wrong_size r answer flash words
   pub wrong_words :

@@ -11,6 +11,5 @@ pub mod Feeding
 pub mod RunsAreBytes
 pub mod HoweverCut
 pub mod Arrives
-pub mod Tails
 pub mod RunArrives
 pub mod WorkedLoad

@@ -1,11 +1,10 @@
 -- "All callers hand the reason on" (request Two): what the calls tell of dropped packets is what the cut says of them.
-use Rattle.std.specs.Prelude.{◌≡◌, true, List, ℕ, ◌<◌, length}
+use Rattle.std.specs.Prelude.{◌≡◌, List, ℕ, ◌<◌, length}
 use Rattle.slip_packets.specs.Packets as cut
 use Rattle.slip_packets.specs.Packets.{packets}
 use Rattle.slip_unframing.specs.declared.Reason.{Reason}
 use Rattle.loader_act.specs.Told.{dropped}
 use Rattle.grammar.specs.Grammar.{packet}
-use Rattle.loader_state.specs.Record.{status_length}
 use Rattle.loader_claims.specs.Calls.{Call, start, line_bytes, ClosingCall, closing_calls, closing_at}
 use Rattle.loader_claims.specs.CallHistory.{stored_at}
 use Rattle.loader_claims.specs.RunCalls.{RunCall, line_taken, closing_runs}
@@ -23,14 +22,14 @@ pub record TellsReasons (bytes : List ℕ) (hs : List ClosingCall) : Type 0 wher
       (i n : ℕ) (w : Reason) → i < length (packets bytes) → (closing_at hs i).told ≡ dropped n w
       → (packet (packets bytes) i ≡ cut.dropped w) × (n ≡ stored_at bytes i)
 
--- From a fresh record of either status length on, with any packet buffer, flash and words, over every list of calls, refused ones included: byte calls
+-- From a fresh record on, with any packet buffer, flash and words, over every list of calls, refused ones included: byte calls
 abbrev pub ReasonsTold : Type 0
 ReasonsTold =
-    (tail : ℕ) → status_length tail ≡ true → (buffer flash words : List ℕ) (cs : List Call)
-    → TellsReasons (line_bytes (start tail buffer flash words) cs) (closing_calls (start tail buffer flash words) cs)
+    (buffer flash words : List ℕ) (cs : List Call)
+    → TellsReasons (line_bytes (start buffer flash words) cs) (closing_calls (start buffer flash words) cs)
 
 -- and run calls
 abbrev pub RunReasonsTold : Type 0
 RunReasonsTold =
-    (tail : ℕ) → status_length tail ≡ true → (buffer flash words : List ℕ) (cs : List RunCall)
-    → TellsReasons (line_taken (start tail buffer flash words) cs) (closing_runs (start tail buffer flash words) cs)
+    (buffer flash words : List ℕ) (cs : List RunCall)
+    → TellsReasons (line_taken (start buffer flash words) cs) (closing_runs (start buffer flash words) cs)

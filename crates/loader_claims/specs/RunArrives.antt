@@ -21,7 +21,7 @@ TakenAs m p run answer =
     ran m (record { run = run; answer = answer })
     ≡ record {
       taken = length (framed p);
-      step = after_packet m.loader.tail (line_state Inside 0) (length p) (handle (core_at m) (header (whole p))) (lay m.buffer 0 p) answer;
+      step = after_packet (line_state Inside 0) (length p) (handle (core_at m) (header (whole p))) (lay m.buffer 0 p) answer;
     }
 
 -- From every machine between packets, of a call that is not refused.

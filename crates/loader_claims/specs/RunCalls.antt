@@ -53,20 +53,20 @@ pub record TakesUpTo (line run : List ℕ) (n : ℕ) : Type 0 where
   -- it is all of the run, or the last byte closes one
   pub no_less : (n ≡ length run) ⊎ (length (packets line) < length (packets (line ++ take n run)))
 
--- what is claimed of one call of a loader that was made with that status length, after the line so far: what it takes, that it sends what it tells, and that every buffer keeps its length
-pub record RunCalled (tail : ℕ) (line : List ℕ) (m : Machine) (c : RunCall) : Type 0 where
+-- what is claimed of one call, after the line so far: what it takes, that it sends what it tells, and that every buffer keeps its length
+pub record RunCalled (line : List ℕ) (m : Machine) (c : RunCall) : Type 0 where
   -- a call that refusals 1 to 4 let pass is not refused, and takes its run up to and with the byte that closes a packet, or all of it
   pub not_refused : passes_run m c ≡ true → (n : ℕ) → (ran m c).step.told ≡ refused n → ⊥
   pub takes : passes_run m c ≡ true → TakesUpTo line c.run (ran m c).taken
   -- "with no byte taken"
   pub takes_none : passes_run m c ≡ false → (ran m c).taken ≡ 0
-  pub sends : Sent tail (ran m c).step.told c.answer (ran m c).step.answer
+  pub sends : Sent (ran m c).step.told c.answer (ran m c).step.answer
   pub packet_length : length (ran m c).step.packet ≡ length m.buffer
   pub answer_length : length (ran m c).step.answer ≡ length c.answer
   pub flash_length : length (ran m c).step.flash ≡ length m.flash
   pub words_length : length (ran m c).step.words ≡ length m.words
 
 -- of every call, each after the line that those before it took
-unfoldable pub EachRunCall : (tail : ℕ) → List ℕ → Machine → List RunCall → Type 0
-EachRunCall tail line m [] = Unit {0}
-EachRunCall tail line m (c ∷ cs) = RunCalled tail line m c × EachRunCall tail (line ++ taken_bytes m c) (next_run m c) cs
+unfoldable pub EachRunCall : List ℕ → Machine → List RunCall → Type 0
+EachRunCall line m [] = Unit {0}
+EachRunCall line m (c ∷ cs) = RunCalled line m c × EachRunCall (line ++ taken_bytes m c) (next_run m c) cs

@@ -5,7 +5,6 @@ use Rattle.esp_begin.specs.Begin.{sector}
 use Rattle.loader_answers.specs.Reply.{longest_answer}
 use Rattle.loader_state.specs.Refusals.{word_count}
 use Rattle.grammar.specs.Witness.{worked_line}
-use Rattle.loader_state.specs.Record.{status_length}
 use Rattle.loader_claims.specs.Calls.{Machine, Call, start, stepped, ends_well}
 use Rattle.loader_claims.specs.Arrives.{bytes, after}
 
@@ -19,9 +18,9 @@ pub record LoadedByte (m : Machine) (cs : List Call) (c : Call) : Type 0 where
   pub ends : ends_well (stepped (after m cs) c).told ≡ true
   pub flash : (stepped (after m cs) c).flash ≡ 0xC0 ∷ replicate (sector - 1) 0xFF
 
--- For either status length, every packet buffer and words that refusals 1 and 4 let pass, every flash of one sector, and all calls that feed that line with long enough answer buffers: so it is at the last.
+-- For every packet buffer and words that refusals 1 and 4 let pass, every flash of one sector, and all calls that feed that line with long enough answer buffers: so it is at the last.
 abbrev pub WorkedLoad : Type 0
 WorkedLoad =
-    (tail : ℕ) → status_length tail ≡ true → (buffer flash words : List ℕ) (cs : List Call) (c : Call) → longest ≤ length buffer → length flash ≡ sector → word_count (length words) ≡ true
+    (buffer flash words : List ℕ) (cs : List Call) (c : Call) → longest ≤ length buffer → length flash ≡ sector → word_count (length words) ≡ true
     → LongAnswers (cs ++ c ∷ []) → bytes (cs ++ c ∷ []) ≡ worked_line
-    → LoadedByte (start tail buffer flash words) cs c
+    → LoadedByte (start buffer flash words) cs c

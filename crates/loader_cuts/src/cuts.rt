@@ -2,7 +2,7 @@
 // into a buffer, and the buffers are compared.
 use crate::calls::{feed_byte, feed_from};
 use fields::bytes_of;
-use loader::{Answer, LONG_STATUS, LONGEST_ANSWER, Loader, Made, Note, Reason, SHORT_STATUS};
+use loader::{Answer, LONGEST_ANSWER, Loader, Note, Reason};
 use slip_framing::LONGEST;
 use slip_unframing::Phase;
 use tables::part;
@@ -12,8 +12,8 @@ pub const FLASH_LENGTH: usize = 65536;
 pub const WORDS: usize = 4096;
 
 // The front of the buffer: what the calls told, the record and the answer buffer. A field has 8,242 bytes; the shortest packet that is
-// answered has nine of them, and takes at most 50 bytes here, one that is answered with a digest 25, and takes at most 114, and a dropped
-// one has two, and takes 12.
+// answered has nine of them, and takes at most 46 bytes here, one that is answered with a digest 25, and takes 78, and a dropped one has
+// two, and takes 12.
 const TOLD: usize = 53248;
 
 const FLASH_AT: usize = TOLD + LONGEST;
@@ -154,7 +154,6 @@ fn put_left(
         begin.offset,
         loader_sessions::accepted_by(session),
         loader.attach,
-        (loader.tail % 65536) as u32,
     ];
     let next = put_words(left, at, &numbers);
     put(left, next, answer);
@@ -163,13 +162,13 @@ fn put_left(
     put_words(left, WORDS_AT, words);
 }
 
-// Feeds a loader byte by byte, over flash and words of zeros.
-fn feed_bytes(loader: Loader, bytes: &[u8], left: &mut [u8; LEFT]) {
+// Feeds a fresh loader byte by byte.
+fn feed_bytes(bytes: &[u8], left: &mut [u8; LEFT]) {
     let mut packet = [0u8; LONGEST];
     let mut answer = [0u8; LONGEST_ANSWER];
     let mut flash = [0u8; FLASH_LENGTH];
     let mut words = [0u32; WORDS];
-    let mut state = loader;
+    let mut state = loader::new();
     let mut used: usize = 0;
     let mut i: usize = 0;
     while i < bytes.len() {
@@ -222,14 +221,14 @@ fn hand_over(
     }
 }
 
-// Feeds a loader two runs, over flash and words of zeros.
-fn feed_runs(loader: Loader, first: &[u8], second: &[u8], left: &mut [u8; LEFT]) {
+// Feeds a fresh loader two runs.
+fn feed_runs(first: &[u8], second: &[u8], left: &mut [u8; LEFT]) {
     let mut packet = [0u8; LONGEST];
     let mut answer = [0u8; LONGEST_ANSWER];
     let mut flash = [0u8; FLASH_LENGTH];
     let mut words = [0u32; WORDS];
     let half = hand_over(
-        loader,
+        loader::new(),
         first,
         &mut packet,
         &mut answer,
@@ -259,33 +258,22 @@ fn same(left: &[u8; LEFT], expected: &[u8; LEFT]) -> u32 {
 }
 
 // 1 where two runs leave what is expected.
-fn agrees(loader: Loader, first: &[u8], second: &[u8], expected: &[u8; LEFT]) -> u32 {
+fn agrees(first: &[u8], second: &[u8], expected: &[u8; LEFT]) -> u32 {
     let mut left = [0u8; LEFT];
-    feed_runs(loader, first, second, &mut left);
+    feed_runs(first, second, &mut left);
     same(&left, expected)
 }
 
-// How many ways of cutting some line bytes into two runs leave what feeding byte by byte leaves, for a fresh loader whose answers end with
-// so many status bytes.
-fn agreeing_with(tail: usize, bytes: &[u8]) -> u32 {
-    let Made::Ready(fresh) = loader::new(tail) else {
-        return 0;
-    };
+// How many ways of cutting some line bytes into two runs leave what feeding byte by byte leaves.
+pub fn agreeing(bytes: &[u8]) -> u32 {
     let mut expected = [0u8; LEFT];
-    feed_bytes(fresh, bytes, &mut expected);
+    feed_bytes(bytes, &mut expected);
     let mut count: u32 = 0;
     let mut cut: usize = 0;
     while cut <= bytes.len() {
-        let one = agrees(fresh, &bytes[..cut], &bytes[cut..], &expected);
+        let one = agrees(&bytes[..cut], &bytes[cut..], &expected);
         count = std::num::wrapping_add_u32(count, one);
         cut += 1;
     }
     count
-}
-
-// How many ways do so for the status length with which fewer do.
-pub fn agreeing(bytes: &[u8]) -> u32 {
-    let short = agreeing_with(SHORT_STATUS, bytes);
-    let long = agreeing_with(LONG_STATUS, bytes);
-    if short < long { short } else { long }
 }

@@ -7,7 +7,7 @@ use borrow.Author.Tests.{eqb-true, eqb-false, eq-eqb, ne_eqb}
 use lib.Dec.{eqb}
 use Rattle.lists.proofs.Tests.{Passed, passed_first, first_passed}
 use Rattle.slip_packets.specs.Packets.{read}
-use Rattle.loader_answers.specs.Digest.{plain}
+use Rattle.loader_answers.specs.Answer.{plain}
 use Rattle.esp_commands.specs.Header.{command}
 use Rattle.loader_sessions.specs.Session.{session_good, if_sound}
 use Rattle.loader_errors.specs.Errors.{kind, checks, error_of}

@@ -2,7 +2,7 @@
 use Rattle.std.specs.Prelude.{◌≡◌, List, cond, ℕ, nat_eq}
 use Rattle.slip_packets.specs.Packets.{Packet, dropped, read}
 use Rattle.slip_unframing.specs.declared.Reason.{Reason}
-use Rattle.loader_answers.specs.Digest.{plain}
+use Rattle.loader_answers.specs.Answer.{plain}
 use Rattle.loader_answers.specs.declared.Body.{Body}
 use Rattle.esp_commands.specs.Header.{command}
 use Rattle.loader_errors.specs.Errors.{kind, error_of}
@@ -28,7 +28,7 @@ carried_out c p =
       core = (effect (kind (command p)) c p).core;
     }
 
--- a command that failed: "A failure has the plain two-byte body", or the four bytes of document 02, Nine
+-- a command that failed: "A failure has the plain two-byte body."
 unfoldable pub failed : Core → List ℕ → ℕ → Handled
 failed c p error = record { reply = replied (command p) error 0 plain no_order; core = c }
 

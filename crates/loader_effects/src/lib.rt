@@ -3,7 +3,7 @@ ghost use Rattle.std.specs.Prelude.{◌≡◌, true, ◌+◌, ◌^◌, ◌<◌, 
 ghost use Rattle.fields.specs.Places.{first_word, second_word};
 ghost use Rattle.fields.specs.Words.{word};
 ghost use Rattle.digest.specs.Digest.{md5_of};
-ghost use Rattle.loader_answers.specs.Digest.{plain, with_digest};
+ghost use Rattle.loader_answers.specs.Answer.{plain, with_digest};
 ghost use Rattle.esp_commands.specs.Header.{command};
 ghost use Rattle.loader_sessions.specs.Session.{accepted, advanced, session_good};
 ghost use Rattle.loader_errors.specs.Errors.{error_of};

@@ -10,7 +10,7 @@ use Rattle.loader_answers.specs.Reply.{longest_answer}
 use Rattle.loader_answers.proofs.Replies.{sent-whole, laid_whole}
 use Rattle.loader_effects.specs.Core.{Core, lengths}
 use Rattle.loader_effects.specs.Handle.{Reply, nothing, replied, handle}
-use Rattle.loader_effects.proofs.Bodies.{Sixteen, sixteen}
+use Rattle.loader_effects.proofs.Bodies.{Short, short}
 use Rattle.loader_effects.proofs.Handled.{obeyed_handled}
 use Rattle.loader_act.specs.Acts.{acted, told_in, written_in}
 use Rattle.loader_run.specs.Step.{answer_buffer, told_of}
@@ -20,20 +20,20 @@ unfolding acted handle
 acted_handled c (dropped w) sound = refl
 acted_handled c (read p) sound = obeyed_handled c p sound
 
-module _ (tail : ℕ) (buffer : List ℕ) (fits : longest_answer ≤ length buffer) where
-  told-whole : (stored : ℕ) (a : Reply) → Sixteen a → told_in tail buffer stored a ≡ told_of tail stored a
+module _ (buffer : List ℕ) (fits : longest_answer ≤ length buffer) where
+  told-whole : (stored : ℕ) (a : Reply) → Short a → told_in buffer stored a ≡ told_of stored a
   unfolding told_in told_of
   told-whole stored (nothing w) k = refl
   told-whole stored (replied c e v b order) k =
-      rw (sent-whole tail c e v b k _ buffer _ fits (record { sent = refl; buffer = refl })) refl
+      rw (sent-whole c e v b k _ buffer _ fits (record { sent = refl; buffer = refl })) refl
 
-  written_whole : (a : Reply) → Sixteen a → written_in tail buffer a ≡ answer_buffer tail a buffer
+  written_whole : (a : Reply) → Short a → written_in buffer a ≡ answer_buffer a buffer
   unfolding written_in answer_buffer
   written_whole (nothing w) k = refl
-  written_whole (replied c e v b order) k = laid_whole tail c e v b k _ buffer _ fits (record { sent = refl; buffer = refl })
+  written_whole (replied c e v b order) k = laid_whole c e v b k _ buffer _ fits (record { sent = refl; buffer = refl })
 
-  pub told_handled : (stored : ℕ) (c : Core) (k : Packet) → told_in tail buffer stored (handle c k).reply ≡ told_of tail stored (handle c k).reply
-  told_handled stored c k = told-whole stored (handle c k).reply (sixteen c k)
+  pub told_handled : (stored : ℕ) (c : Core) (k : Packet) → told_in buffer stored (handle c k).reply ≡ told_of stored (handle c k).reply
+  told_handled stored c k = told-whole stored (handle c k).reply (short c k)
 
-  pub written_handled : (c : Core) (k : Packet) → written_in tail buffer (handle c k).reply ≡ answer_buffer tail (handle c k).reply buffer
-  written_handled c k = written_whole (handle c k).reply (sixteen c k)
+  pub written_handled : (c : Core) (k : Packet) → written_in buffer (handle c k).reply ≡ answer_buffer (handle c k).reply buffer
+  written_handled c k = written_whole (handle c k).reply (short c k)

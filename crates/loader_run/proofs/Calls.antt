@@ -60,7 +60,7 @@ module _
 
   module _ (good : n ≡ 0) (packet' : List ℕ) (s : Ran) (ran : Runs (run_of loader.line run packet) s packet') where
     abbrev next : Loader
-    next = record { line = s.line; session = loader.session; attach = loader.attach; tail = loader.tail }
+    next = record { line = s.line; session = loader.session; attach = loader.attach }
 
     -- what the call comes to, by what the run closes
     going_on :
@@ -112,10 +112,10 @@ module _
         (rw e
         (record {
           counts = refl;
-          says = h.says ∙ told_handled loader.tail answer fits (length (take m packet')) core k ∙ ap (λ n. told_of loader.tail n (handle core k).reply) q;
+          says = h.says ∙ told_handled answer fits (length (take m packet')) core k ∙ ap (λ n. told_of n (handle core k).reply) q;
           hands_back = h.hands_back;
           packet_buffer = refl;
-          answer_buffer = h.answer_buffer ∙ written_handled loader.tail answer fits core k;
+          answer_buffer = h.answer_buffer ∙ written_handled answer fits core k;
           in_flash = h.in_flash;
           in_words = h.in_words;
         }))

@@ -8,7 +8,7 @@ use Rattle.slip_unframing.specs.Line.{Closed as ClosedPacket}
 use Rattle.slip_unframing.specs.declared.Line.{Line}
 use Rattle.loader_state.specs.Refusals.{BufferLengths}
 use Rattle.esp_commands.specs.Status.{status_of}
-use Rattle.loader_answers.specs.Digest.{answer_bytes}
+use Rattle.loader_answers.specs.Answer.{answer_bytes}
 use Rattle.loader_effects.specs.Handle.{Reply, nothing, replied, Handled, handle}
 use Rattle.loader_act.specs.Told.{Told, refused, taken, dropped, answered}
 use Rattle.loader_act.specs.Acts.{core_of}
@@ -27,7 +27,7 @@ abbrev pub keeping : Told → Line → Loader → List ℕ → List ℕ → List
 keeping t l r packet answer flash words =
     record {
       told = t;
-      loader = record { line = l; session = r.session; attach = r.attach; tail = r.tail };
+      loader = record { line = l; session = r.session; attach = r.attach };
       packet = packet;
       answer = answer;
       flash = flash;
@@ -40,23 +40,22 @@ refusing n r packet answer flash words =
     record { told = refused n; loader = r; packet = packet; answer = answer; flash = flash; words = words }
 
 -- "On both lines what is sent, framed, fills the front of answer room; the rest, or all of it without an answer, stays."
--- An answer ends with as many status bytes as the record says.
-unfoldable pub answer_buffer : (tail : ℕ) → Reply → List ℕ → List ℕ
-answer_buffer tail (nothing w) buffer = buffer
-answer_buffer tail (replied c e v b order) buffer = lay buffer 0 (framed (answer_bytes tail c e v b))
+unfoldable pub answer_buffer : Reply → List ℕ → List ℕ
+answer_buffer (nothing w) buffer = buffer
+answer_buffer (replied c e v b order) buffer = lay buffer 0 (framed (answer_bytes c e v b))
 
-unfoldable pub told_of : (tail : ℕ) → ℕ → Reply → Told
-told_of tail stored (nothing w) = dropped stored w
-told_of tail stored (replied c e v b order) = answered stored c (status_of e) e (length (framed (answer_bytes tail c e v b))) order
+unfoldable pub told_of : ℕ → Reply → Told
+told_of stored (nothing w) = dropped stored w
+told_of stored (replied c e v b order) = answered stored c (status_of e) e (length (framed (answer_bytes c e v b))) order
 
--- a call that closed a packet, which was handled; the status length stays
-unfoldable pub after_packet : (tail : ℕ) → Line → ℕ → Handled → List ℕ → List ℕ → Step
-after_packet tail l stored h packet buffer =
+-- a call that closed a packet, which was handled
+unfoldable pub after_packet : Line → ℕ → Handled → List ℕ → List ℕ → Step
+after_packet l stored h packet buffer =
     record {
-      told = told_of tail stored h.reply;
-      loader = record { line = l; session = h.core.session; attach = h.core.attach; tail = tail };
+      told = told_of stored h.reply;
+      loader = record { line = l; session = h.core.session; attach = h.core.attach };
       packet = packet;
-      answer = answer_buffer tail h.reply buffer;
+      answer = answer_buffer h.reply buffer;
       flash = h.core.flash;
       words = h.core.words;
     }
@@ -65,7 +64,7 @@ after_packet tail l stored h packet buffer =
 unfoldable pub after_byte : Option ClosedPacket → Line → Loader → List ℕ → List ℕ → List ℕ → List ℕ → Step
 after_byte none l r packet answer flash words = keeping taken l r packet answer flash words
 after_byte (some d) l r packet answer flash words =
-    after_packet r.tail l d.stored (handle (core_of r flash words) (header d.contents)) packet answer
+    after_packet l d.stored (handle (core_of r flash words) (header d.contents)) packet answer
 
 -- the lengths of what a call lends
 abbrev pub buffer_lengths : List ℕ → List ℕ → List ℕ → List ℕ → BufferLengths

@@ -50,7 +50,6 @@ pub fn feed_run(
         line: after,
         session,
         attach: loader.attach,
-        tail: loader.tail,
     };
     match closing {
         Closing::Open => RunFed {

@@ -11,7 +11,6 @@ use Rattle.esp_attach.specs.Pins.{attach_good}
 use Rattle.slip_framing.specs.Frame.{longest}
 use Rattle.loader_sessions.specs.Session.{session_good}
 use Rattle.loader_answers.specs.Reply.{longest_answer}
-use Rattle.loader_state.specs.Record.{status_length}
 use Rattle.loader_state.specs.Refusals.{BufferLengths, lengths_of, buffer_checks, record_good, refusal}
 use Rattle.loader_state.specs.declared.Loader.{Loader}
 
@@ -20,7 +19,6 @@ pub record LetPass (r : Loader) (buffers : BufferLengths) : Type 0 where
   pub held : r.line.held ≤ longest
   pub session : session_good (lengths_of buffers) r.session ≡ true
   pub attach : attach_good r.attach ≡ true
-  pub tail : status_length r.tail ≡ true
 
 pub let_pass : (r : Loader) (buffers : BufferLengths) → refusal r buffers ≡ 0 → LetPass r buffers
 unfolding refusal buffer_checks record_good
@@ -28,19 +26,17 @@ let_pass r buffers e =
     let t : Passed (buffer_checks buffers ++ (record_good (lengths_of buffers) r or_else 5 ∷ [])) = first_passed _ refl e in
     let g = both (leb r.line.held longest) _ t.1.1.1.1.0 in
     let s = both (session_good (lengths_of buffers) r.session) _ g.1 in
-    let a = both (attach_good r.attach) _ s.1 in
     record {
       lent = (t.0, (t.1.0, (t.1.1.0, (t.1.1.1.0, tt))));
       held = leb-true _ _ g.0;
       session = s.0;
-      attach = a.0;
-      tail = a.1;
+      attach = s.1;
     }
 
 pub no_refusal : (r : Loader) (buffers : BufferLengths) → LetPass r buffers → refusal r buffers ≡ 0
 unfolding refusal buffer_checks record_good
 no_refusal r buffers p =
-    let g : record_good (lengths_of buffers) r ≡ true = rw (le-leb r.line.held longest p.held, p.session, p.attach) p.tail in
+    let g : record_good (lengths_of buffers) r ≡ true = rw (le-leb r.line.held longest p.held, p.session) p.attach in
     passed_first (buffer_checks buffers ++ (record_good (lengths_of buffers) r or_else 5 ∷ []))
     (p.lent.0, (p.lent.1.0, (p.lent.1.1.0, (p.lent.1.1.1.0, (g, tt)))))
 

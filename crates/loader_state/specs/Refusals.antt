@@ -7,7 +7,6 @@ use Rattle.esp_begin.specs.Flash.{flash_length}
 use Rattle.esp_begin.specs.declared.Lengths.{Lengths}
 use Rattle.loader_sessions.specs.Session.{session_good}
 use Rattle.loader_answers.specs.Reply.{longest_answer}
-use Rattle.loader_state.specs.Record.{status_length}
 use Rattle.loader_state.specs.declared.Loader.{Loader}
 
 -- the lengths of what a call lends: packet buffer, answer buffer, flash, words
@@ -34,9 +33,9 @@ buffer_checks r =
     ∷ word_count r.words or_else 4
     ∷ []
 
--- "more than 4,120 bytes held, a session whose numbers fail the BEGIN rules for these lengths, more blocks accepted than announced, or an attach word that would be refused"; "5 also where the field is neither" two nor four (document 02, Nine)
+-- "more than 4,120 bytes held, a session whose numbers fail the BEGIN rules for these lengths, more blocks accepted than announced, or an attach word that would be refused"
 unfoldable pub record_good : Lengths → Loader → Bool
-record_good l r = nat_le r.line.held longest && (session_good l r.session && (attach_good r.attach && status_length r.tail))
+record_good l r = nat_le r.line.held longest && (session_good l r.session && attach_good r.attach)
 
 -- the number that a call is refused with, 0 where it is not
 unfoldable pub refusal : Loader → BufferLengths → ℕ

@@ -3,7 +3,7 @@
 use crate::names;
 use fields::word_at;
 use listing_report::Written;
-use loader::{Answer, LONG_STATUS, Loader, Made, RunFed, SHORT_STATUS};
+use loader::{Answer, Loader, RunFed};
 use slip_framing::{Framed, LONGEST, LONGEST_FRAME};
 use slip_unframing::Closing;
 use tables::{part, put_byte};
@@ -30,17 +30,6 @@ struct Said {
     silent: u8,
     sent: usize,
     last: Answer,
-}
-
-// Before the first call.
-fn none_said() -> Said {
-    Said {
-        closed: 0,
-        errors: 0,
-        silent: SILENT,
-        sent: 0,
-        last: Answer::Taken,
-    }
 }
 
 // What is said after one more call.
@@ -113,14 +102,20 @@ fn feed_from(
     loader::feed_run(loader, rest, packet, answer, flash, words)
 }
 
-// Feeds a loader, over flash and words of zeros, and keeps its flash. All bytes are handed over, and what a call leaves of them again
-// until nothing is left. A call that is not refused takes some of what it is handed, so there are no more calls than bytes.
-fn run(loader: Loader, bytes: &[u8], got: &mut [u8]) -> Said {
+// Feeds a fresh loader, over flash and words of zeros, and keeps its flash. All bytes are handed over, and what a call leaves of them
+// again until nothing is left. A call that is not refused takes some of what it is handed, so there are no more calls than bytes.
+fn run(bytes: &[u8], got: &mut [u8]) -> Said {
     let mut packet = [0u8; LONGEST];
     let mut flash = [0u8; FLASH_LENGTH];
     let mut words = [0u32; WORDS];
-    let mut state = loader;
-    let mut said = none_said();
+    let mut state = loader::new();
+    let mut said = Said {
+        closed: 0,
+        errors: 0,
+        silent: SILENT,
+        sent: 0,
+        last: Answer::Taken,
+    };
     let mut at: usize = 0;
     let mut calls: usize = 0;
     while at < bytes.len() && calls < bytes.len() {
@@ -133,14 +128,6 @@ fn run(loader: Loader, bytes: &[u8], got: &mut [u8]) -> Said {
     }
     keep(&flash, got);
     said
-}
-
-// Feeds a fresh loader whose answers end with so many status bytes.
-fn run_fresh(tail: usize, bytes: &[u8], got: &mut [u8]) -> Said {
-    let Made::Ready(fresh) = loader::new(tail) else {
-        return none_said();
-    };
-    run(fresh, bytes, got)
 }
 
 // A packet that is closed: a whole one stands in the buffer already, and of a broken one its line is written there.
@@ -174,21 +161,12 @@ pub fn frame(bytes: &[u8], got: &mut [u8]) -> usize {
     n
 }
 
-// How many status bytes end the answers of an operation's loader.
-fn tail_of(operation: u8) -> usize {
-    if operation == names::ANSWER4 {
-        LONG_STATUS
-    } else {
-        SHORT_STATUS
-    }
-}
-
 // A loader that is fed.
 pub fn on_loader(operation: u8, input: &[u8], got: &mut [u8]) -> usize {
-    let said = run_fresh(tail_of(operation), input, got);
+    let said = run(input, got);
     let last = said.last;
     match operation {
-        names::ANSWER | names::ANSWER4 => said.sent,
+        names::ANSWER => said.sent,
         names::CLOSES => put_byte(said.closed, got),
         names::LINE => line_of(last, got),
         _ => put_byte(said.errors | said.silent, got),
@@ -197,7 +175,7 @@ pub fn on_loader(operation: u8, input: &[u8], got: &mut [u8]) -> usize {
 
 // A loader that is fed a load of so many packets: that count, how many were closed, and the bits of all the errors.
 pub fn on_load(count: u8, line: &[u8], got: &mut [u8]) -> usize {
-    let said = run_fresh(SHORT_STATUS, line, got);
+    let said = run(line, got);
     let three = [count, said.closed, said.errors | said.silent];
     lists::copy_at(got, 0, &three);
     3

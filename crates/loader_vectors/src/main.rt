@@ -17,7 +17,7 @@ fn outcome(operation: u8, input: &[u8], got: &mut [u8]) -> usize {
         names::PACK => plain::pack(input, got),
         names::FRAME => chip::frame(input, got),
         names::UNFRAME => chip::unframe(input, got),
-        names::ANSWER | names::ANSWER4 | names::CLOSES | names::ERRORS | names::LINE => {
+        names::ANSWER | names::CLOSES | names::ERRORS | names::LINE => {
             chip::on_loader(operation, input, got)
         }
         names::FLASH => chip::flash_at(input, got),

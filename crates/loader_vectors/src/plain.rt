@@ -2,9 +2,9 @@
 use crate::chip::{FLASH_LENGTH, WORDS};
 use crate::names;
 use fields::{FIRST_WORD, word_at};
-use loader_answers::{LONG_STATUS, LONGEST_ANSWER, SHORT_STATUS};
+use loader_answers::LONGEST_ANSWER;
 use loader_sessions::Session;
-use loader_state::{Loader, Made};
+use loader_state::Loader;
 use pins::{Packed, Pins};
 use slip_framing::LONGEST;
 use tables::{put_byte, put_word};
@@ -29,24 +29,14 @@ pub fn pack(bytes: &[u8], got: &mut [u8]) -> usize {
     told(pins::pack(pins), got)
 }
 
-// The number that a loader of a status length is refused with when it is made; 0 where it is not.
-fn made(tail: usize) -> u8 {
-    match loader_state::new(tail) {
-        Made::Ready(_) => 0,
-        Made::Refused(number) => number,
-    }
-}
-
-// The number that a call is refused with; 0 where it is not. Its record is fresh but for the attach word and the status length, and its
-// buffers are good but for the answer buffer's length. The record is put together here, as none is made with a bad word or length.
-fn refused(attach: u32, tail: usize, answer: usize) -> u8 {
+// The number that a call is refused with whose record holds an attach word.
+fn record(attach: u32) -> u8 {
     let loader = Loader {
         line: slip_unframing::new(),
         session: Session::Closed,
         attach,
-        tail,
     };
-    loader_state::refusal_of(loader, LONGEST, answer, FLASH_LENGTH, WORDS)
+    loader_state::refusal_of(loader, LONGEST, LONGEST_ANSWER, FLASH_LENGTH, WORDS)
 }
 
 // The merge of three words: the old one, the value, the mask.
@@ -56,26 +46,20 @@ fn merge(bytes: &[u8]) -> u32 {
 
 // What an operation on bytes gives: a byte or a word.
 fn value_of(operation: u8, input: &[u8]) -> u32 {
-    let number = word_at(input, 0);
-    let length = number as usize;
     match operation {
         names::CHECKSUM => fields::checksum_from(input, 0) as u32,
         names::COMMAND => esp_commands::command_of(input) as u32,
         names::SIZE => fields::half_at(input, 2),
         names::VALUE => word_at(input, 4),
         names::ADDRESS => word_at(input, FIRST_WORD),
-        names::RECORD => refused(number, SHORT_STATUS, LONGEST_ANSWER) as u32,
-        names::MADE => made(length) as u32,
-        names::TAIL => refused(0, length, LONGEST_ANSWER) as u32,
-        names::LENT => refused(0, SHORT_STATUS, length) as u32,
-        names::LENT4 => refused(0, LONG_STATUS, length) as u32,
+        names::RECORD => record(word_at(input, 0)) as u32,
         _ => merge(input),
     }
 }
 
 pub fn on_bytes(operation: u8, input: &[u8], got: &mut [u8]) -> usize {
     let value = value_of(operation, input);
-    if operation <= names::LENT4 {
+    if operation <= names::RECORD {
         return put_byte((value % 256) as u8, got);
     }
     put_word(value, got)

@@ -12,7 +12,6 @@ use Rattle.loader_answers.specs.Reply.{longest_answer}
 use Rattle.esp_begin.specs.Flash.{flash_length}
 use Rattle.loader_effects.specs.Core.{Core}
 use Rattle.loader_effects.specs.Handle.{handle}
-use Rattle.loader_state.specs.Record.{status_length}
 use Rattle.loader_run.specs.Step.{Step}
 use Rattle.loader_act.specs.Told.{Told, refused, taken, dropped, answered}
 use Rattle.loader_claims.specs.Calls.{Machine, Call, start, stepped, next, line_bytes, closing_call, closing_calls, EachCall}
@@ -35,10 +34,10 @@ use Rattle.sender_claims.proofs.Frames.{todo_frames}
 
 -- ---- packets handled one after the other
 
-tells_over_lem : (tail : ℕ) (ps : List (List ℕ)) (c : Core) → map (λ h. h.told) (closings tail c (map closed_whole ps)) ≡ tells_over tail c ps
+tells_over_lem : (ps : List (List ℕ)) (c : Core) → map (λ h. h.told) (closings c (map closed_whole ps)) ≡ tells_over c ps
 unfolding closings tells_over
-tells_over_lem tail [] c = refl
-tells_over_lem tail (p ∷ ps) c = rw (tells_over_lem tail ps (handle c (packet_of (closed_whole p))).core)
+tells_over_lem [] c = refl
+tells_over_lem (p ∷ ps) c = rw (tells_over_lem ps (handle c (packet_of (closed_whole p))).core)
 
 core_over_lem : (ps : List (List ℕ)) (c : Core) → core_left c (map closed_whole ps) ≡ core_over c ps
 unfolding core_left core_over
@@ -81,51 +80,50 @@ threaded_tells (b ∷ bs) s =
     (sym (map-append (λ h. h.told) (closing_call x.told x.flash) (closing_calls (next s.machine (byte_call s b)) (threaded (one_byte s b).left bs))))
 
 -- the answer buffer keeps its length, so it stays long enough
-threaded_long : (tail : ℕ) (bs : List ℕ) (s : State) → EachCall tail s.machine (threaded s bs) → longest_answer ≤ length s.answer → LongAnswers (threaded s bs)
+threaded_long : (bs : List ℕ) (s : State) → EachCall s.machine (threaded s bs) → longest_answer ≤ length s.answer → LongAnswers (threaded s bs)
 unfolding threaded one_byte EachCall LongAnswers
-threaded_long tail [] s e h = tt
-threaded_long tail (b ∷ bs) s e h = (h, threaded_long tail bs (one_byte s b).left e.1 (rw e.0.answer_length h))
+threaded_long [] s e h = tt
+threaded_long (b ∷ bs) s e h = (h, threaded_long bs (one_byte s b).left e.1 (rw e.0.answer_length h))
 
 -- ---- the three ways of feeding
 
-module _ (tail : ℕ) (length-good : status_length tail ≡ true) (buffer flash words : List ℕ) (ps : List (List ℕ)) (accepted : Accepted buffer words) (good : flash_length (length flash) ≡ true)
+module _ (buffer flash words : List ℕ) (ps : List (List ℕ)) (accepted : Accepted buffer words) (good : flash_length (length flash) ≡ true)
     (frameable : AllFrameable ps) where
   abbrev m : Machine
-  m = start tail buffer flash words
+  m = start buffer flash words
 
   abbrev Handled : List Told → Machine → Type 0
-  Handled told left = (told ≡ tells_over tail (core_at m) ps) × (core_at left ≡ core_over (core_at m) ps)
+  Handled told left = (told ≡ tells_over (core_at m) ps) × (core_at left ≡ core_over (core_at m) ps)
 
   runs_over : (cs : List RunCall) → line_taken m cs ≡ framed_all ps → Handled (map (λ h. h.told) (closing_runs m cs)) (run_calls m cs).machine
-  unfolding start
   runs_over cs e =
-      let f = from_start tail length-good buffer flash words cs in
+      let f = from_start buffer flash words cs in
       let t : todo none (line_taken m cs) ≡ map closed_whole ps = ap (todo none) e ∙ todo_frames ps frameable in (
-        ap (map (λ h. h.told)) (f.closes ∙ ap (closings m.loader.tail (core_at m)) t) ∙ tells_over_lem m.loader.tail ps (core_at m),
+        ap (map (λ h. h.told)) (f.closes ∙ ap (closings (core_at m)) t) ∙ tells_over_lem ps (core_at m),
         f.left ∙ ap (core_left (core_at m)) t ∙ core_over_lem ps (core_at m),
       )
 
   -- byte calls are run calls of one byte
   bytes_over : (cs : List Call) → line_bytes m cs ≡ framed_all ps → Handled (map (λ h. h.told) (closing_calls m cs)) (after m cs)
   bytes_over cs e =
-      let line : line_taken m (map single cs) ≡ framed_all ps = single_line m.loader.tail cs m [] (from_start tail length-good buffer flash words (map single cs)).each ∙ e in
+      let line : line_taken m (map single cs) ≡ framed_all ps = single_line cs m [] (from_start buffer flash words (map single cs)).each ∙ e in
       rw (single_closings cs m, single_left cs m) at (runs_over (map single cs) line)
 
   cut_over : (answer : List ℕ) (runs : List (List ℕ)) → longest_answer ≤ length answer → joined runs ≡ framed_all ps
-      → Handled (map (λ x. x.told) (by_runs (fresh tail buffer flash words answer) runs).closings) (by_runs (fresh tail buffer flash words answer) runs).left.machine
+      → Handled (map (λ x. x.told) (by_runs (fresh buffer flash words answer) runs).closings) (by_runs (fresh buffer flash words answer) runs).left.machine
   cut_over answer runs long e =
-      let s : State = fresh tail buffer flash words answer in
+      let s : State = fresh buffer flash words answer in
       let cs : List Call = threaded s (framed_all ps) in
-      let each = (demand3 tail length-good buffer flash words cs).each_call in
-      let pass = long-pass tail buffer flash words cs accepted.long good accepted.counted (threaded_long tail (framed_all ps) s each long) in
-      let b = bytes_over cs (all-line tail m cs each pass ∙ threaded_bytes (framed_all ps) s) in
+      let each = (demand3 buffer flash words cs).each_call in
+      let pass = long-pass buffer flash words cs accepted.long good accepted.counted (threaded_long (framed_all ps) s each long) in
+      let b = bytes_over cs (all-line m cs each pass ∙ threaded_bytes (framed_all ps) s) in
       rw (runs_as_bytes runs s, e, threaded_tells (framed_all ps) s, threaded_left (framed_all ps) s) b
 
-pub fed_over : (tail : ℕ) → status_length tail ≡ true → (buffer flash words : List ℕ) (ps : List (List ℕ)) (told : List Told) (left : Machine)
+pub fed_over : (buffer flash words : List ℕ) (ps : List (List ℕ)) (told : List Told) (left : Machine)
     → Accepted buffer words → flash_length (length flash) ≡ true → AllFrameable ps
-    → LineFed tail buffer flash words (framed_all ps) told left
-    → (told ≡ tells_over tail (core_at (start tail buffer flash words)) ps) × (core_at left ≡ core_over (core_at (start tail buffer flash words)) ps)
-fed_over tail length-good buffer flash words ps told left accepted good frameable (fed_by_bytes cs e) = bytes_over tail length-good buffer flash words ps accepted good frameable cs e
-fed_over tail length-good buffer flash words ps told left accepted good frameable (fed_by_runs cs e) = runs_over tail length-good buffer flash words ps accepted good frameable cs e
-fed_over tail length-good buffer flash words ps told left accepted good frameable (cut_anywhere answer runs long e) =
-    cut_over tail length-good buffer flash words ps accepted good frameable answer runs long e
+    → LineFed buffer flash words (framed_all ps) told left
+    → (told ≡ tells_over (core_at (start buffer flash words)) ps) × (core_at left ≡ core_over (core_at (start buffer flash words)) ps)
+fed_over buffer flash words ps told left accepted good frameable (fed_by_bytes cs e) = bytes_over buffer flash words ps accepted good frameable cs e
+fed_over buffer flash words ps told left accepted good frameable (fed_by_runs cs e) = runs_over buffer flash words ps accepted good frameable cs e
+fed_over buffer flash words ps told left accepted good frameable (cut_anywhere answer runs long e) =
+    cut_over buffer flash words ps accepted good frameable answer runs long e

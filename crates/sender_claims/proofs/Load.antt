@@ -1,7 +1,6 @@
 -- A load that the sender does not refuse: each packet can be framed and is read; handled in order from no session on, each succeeds, and the image stands in flash.
 use mathlib.Core.Path.{◌≡◌, refl}
 use mathlib.Core.List.{List, [], ◌∷◌, map}
-use mathlib.Core.Bool.{true}
 use Prim.Native.Nat.{ℕ}
 use lib.ListN.{length, take}
 use Rattle.lists.specs.Bytes.{IsBytes}
@@ -9,7 +8,6 @@ use Rattle.slip_unframing.specs.Reasons.{whole}
 use Rattle.slip_packets.specs.Packets.{read, header}
 use Rattle.loader_sessions.specs.declared.Session.TheVariants.{Closed}
 use Rattle.loader_effects.specs.Core.{Core}
-use Rattle.loader_state.specs.Record.{status_length}
 use Rattle.sender.specs.Load.{packet_count}
 use Rattle.sender.specs.Packets.{packet_of}
 use Rattle.sender.specs.Line.{consecutive, packets_of}
@@ -57,13 +55,11 @@ pub record Left (image : List ℕ) (offset : ℕ) (flash words : List ℕ) (c : 
 
 module _ (image : List ℕ) (offset block : ℕ) (flash words : List ℕ) (bytes : IsBytes image)
     (good : load_refusal (length image) offset block (length flash) ≡ 0) where
-  pub load-tells : (tail : ℕ) → status_length tail ≡ true
-      → tells_over tail (fresh_core flash words) (packets_of image offset block) ≡ map (success tail) (packets_of image offset block)
-  load-tells tail length-good = succeeding_tells tail length-good (all_succeed image offset block flash words (sized _ _ _ _ good) bytes)
+  pub load-tells : tells_over (fresh_core flash words) (packets_of image offset block) ≡ map success (packets_of image offset block)
+  load-tells = succeeding_tells (all_succeed image offset block flash words (sized _ _ _ _ good) bytes)
 
-  pub load_so_far : (tail : ℕ) → status_length tail ≡ true → (n : ℕ)
-      → tells_over tail (fresh_core flash words) (take n (packets_of image offset block)) ≡ map (success tail) (take n (packets_of image offset block))
-  load_so_far tail length-good n = succeeding_so_far tail length-good n (all_succeed image offset block flash words (sized _ _ _ _ good) bytes)
+  pub load_so_far : (n : ℕ) → tells_over (fresh_core flash words) (take n (packets_of image offset block)) ≡ map success (take n (packets_of image offset block))
+  load_so_far n = succeeding_so_far n (all_succeed image offset block flash words (sized _ _ _ _ good) bytes)
 
   pub load-leaves : Left image offset flash words (core_over (fresh_core flash words) (packets_of image offset block))
   load-leaves =

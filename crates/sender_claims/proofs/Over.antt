@@ -10,9 +10,9 @@ use Rattle.loader_act.specs.Told.{Told}
 use Rattle.loader_run.specs.Step.{told_of}
 use Rattle.esp_requests.proofs.Lengths.{Frameable}
 
-unfoldable pub tells_over : (tail : ℕ) → Core → List (List ℕ) → List Told
-tells_over tail c [] = []
-tells_over tail c (p ∷ ps) = told_of tail (length p) (handle c (header (whole p))).reply ∷ tells_over tail (handle c (header (whole p))).core ps
+unfoldable pub tells_over : Core → List (List ℕ) → List Told
+tells_over c [] = []
+tells_over c (p ∷ ps) = told_of (length p) (handle c (header (whole p))).reply ∷ tells_over (handle c (header (whole p))).core ps
 
 unfoldable pub core_over : Core → List (List ℕ) → Core
 core_over c [] = c

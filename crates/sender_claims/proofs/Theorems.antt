@@ -32,30 +32,30 @@ flash_good : (size offset block flash : ℕ) → load_refusal size offset block 
 unfolding load_refusal load_checks
 flash_good size offset block flash good = (first_passed (load_checks size offset block flash) refl good).0
 
-fresh-core : (tail : ℕ) (buffer flash words : List ℕ) → core_at (start tail buffer flash words) ≡ fresh_core flash words
+fresh-core : (buffer flash words : List ℕ) → core_at (start buffer flash words) ≡ fresh_core flash words
 unfolding start
-fresh-core tail buffer flash words = refl
+fresh-core buffer flash words = refl
 
 pub every_packet_succeeds : EveryPacketSucceeds
 unfolding load_line
 every_packet_succeeds =
     record {
-      all = λ tail length-good image offset block buffer flash words told left bytes good accepted fed.
+      all = λ image offset block buffer flash words told left bytes good accepted fed.
           let fits = load_frameable image offset block (length flash) good in
-          let f = fed_over tail length-good buffer flash words (packets_of image offset block) told left accepted (flash_good _ _ _ _ good) fits fed in
-          f.0 ∙ rw (fresh-core tail buffer flash words) (load-tells image offset block flash words bytes good tail length-good);
-      so_far = λ tail length-good image offset block buffer flash words told left n bytes good accepted fed.
+          let f = fed_over buffer flash words (packets_of image offset block) told left accepted (flash_good _ _ _ _ good) fits fed in
+          f.0 ∙ rw (fresh-core buffer flash words) (load-tells image offset block flash words bytes good);
+      so_far = λ image offset block buffer flash words told left n bytes good accepted fed.
           let fits = frameable_take n (packets_of image offset block) (load_frameable image offset block (length flash) good) in
-          let f = fed_over tail length-good buffer flash words (take n (packets_of image offset block)) told left accepted (flash_good _ _ _ _ good) fits fed in
-          f.0 ∙ rw (fresh-core tail buffer flash words) (load_so_far image offset block flash words bytes good tail length-good n);
+          let f = fed_over buffer flash words (take n (packets_of image offset block)) told left accepted (flash_good _ _ _ _ good) fits fed in
+          f.0 ∙ rw (fresh-core buffer flash words) (load_so_far image offset block flash words bytes good n);
     }
 
 pub image_stands : ImageStands
 unfolding load_line
-image_stands tail length-good image offset block buffer flash words told left bytes good accepted fed =
-    let f = fed_over tail length-good buffer flash words (packets_of image offset block) told left accepted (flash_good _ _ _ _ good) (load_frameable image offset block (length flash) good) fed in
+image_stands image offset block buffer flash words told left bytes good accepted fed =
+    let f = fed_over buffer flash words (packets_of image offset block) told left accepted (flash_good _ _ _ _ good) (load_frameable image offset block (length flash) good) fed in
     let l = load-leaves image offset block flash words bytes good in
-    let e : core_at left ≡ core_over (fresh_core flash words) (packets_of image offset block) = f.1 ∙ rw (fresh-core tail buffer flash words) refl in
+    let e : core_at left ≡ core_over (fresh_core flash words) (packets_of image offset block) = f.1 ∙ rw (fresh-core buffer flash words) refl in
     record {
       stands = rw (← ap (λ c. c.flash) e) at l.image_stands;
       same_words = ap (λ c. c.words) e ∙ l.same_words;

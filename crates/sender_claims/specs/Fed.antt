@@ -17,22 +17,22 @@ pub record Accepted (buffer words : List ℕ) : Type 0 where
   pub counted : word_count (length words) ≡ true
 
 -- the fresh loader, lent an answer buffer that all calls hand on
-abbrev pub fresh : (tail : ℕ) (buffer flash words answer : List ℕ) → State
-fresh tail buffer flash words answer = record { machine = start tail buffer flash words; answer = answer }
+abbrev pub fresh : (buffer flash words answer : List ℕ) → State
+fresh buffer flash words answer = record { machine = start buffer flash words; answer = answer }
 
--- the line is fed to a fresh loader of that status length with these buffers: what the calls that close a packet tell, in order, and what the calls leave
-pub data LineFed (tail : ℕ) (buffer flash words line : List ℕ) : List Told → Machine → Type 0 where
+-- the line is fed to a fresh loader with these buffers: what the calls that close a packet tell, in order, and what the calls leave
+pub data LineFed (buffer flash words line : List ℕ) : List Told → Machine → Type 0 where
   -- by byte calls, each with an answer buffer of its own, refused calls included: the bytes of those that are let pass are the line
   fed_by_bytes :
-      (cs : List Call) → line_bytes (start tail buffer flash words) cs ≡ line
-      → LineFed tail buffer flash words line (map (λ h. h.told) (closing_calls (start tail buffer flash words) cs)) (after (start tail buffer flash words) cs)
+      (cs : List Call) → line_bytes (start buffer flash words) cs ≡ line
+      → LineFed buffer flash words line (map (λ h. h.told) (closing_calls (start buffer flash words) cs)) (after (start buffer flash words) cs)
   -- by run calls, each with any run and an answer buffer of its own, empty runs and refused calls included: what was taken, end to end, is the line
   fed_by_runs :
-      (cs : List RunCall) → line_taken (start tail buffer flash words) cs ≡ line
-      → LineFed tail buffer flash words line (map (λ h. h.told) (closing_runs (start tail buffer flash words) cs))
-      (run_calls (start tail buffer flash words) cs).machine
+      (cs : List RunCall) → line_taken (start buffer flash words) cs ≡ line
+      → LineFed buffer flash words line (map (λ h. h.told) (closing_runs (start buffer flash words) cs))
+      (run_calls (start buffer flash words) cs).machine
   -- cut anywhere into runs, each handed over until it is taken, with one answer buffer
   cut_anywhere :
       (answer : List ℕ) (runs : List (List ℕ)) → longest_answer ≤ length answer → joined runs ≡ line
-      → LineFed tail buffer flash words line (map (λ x. x.told) (by_runs (fresh tail buffer flash words answer) runs).closings)
-      (by_runs (fresh tail buffer flash words answer) runs).left.machine
+      → LineFed buffer flash words line (map (λ x. x.told) (by_runs (fresh buffer flash words answer) runs).closings)
+      (by_runs (fresh buffer flash words answer) runs).left.machine

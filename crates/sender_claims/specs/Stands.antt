@@ -1,9 +1,8 @@
 -- "after the END the image stands at its offset as demand 3 says": the four parts of flash that demand 3 names (loader_history::Loaded), with the image itself where that has the blocks' data. Of the sender it takes which loads are refused and the line of a load: definitions, and no code.
-use Rattle.std.specs.Prelude.{◌≡◌, List, true, ℕ, ◌+◌, ◌-◌, length, take, drop, replicate}
+use Rattle.std.specs.Prelude.{◌≡◌, List, ℕ, ◌+◌, ◌-◌, length, take, drop, replicate}
 use Rattle.lists.specs.Bytes.{IsBytes}
 use Rattle.esp_begin.specs.Begin.{round_up}
 use Rattle.loader_sessions.specs.declared.Session.TheVariants.{Closed}
-use Rattle.loader_state.specs.Record.{status_length}
 use Rattle.loader_act.specs.Told.{Told}
 use Rattle.loader_claims.specs.Calls.{Machine}
 use Rattle.sender.specs.Sending.{load_refusal}
@@ -30,10 +29,10 @@ pub record Loads (image : List ℕ) (offset : ℕ) (flash words : List ℕ) (lef
   pub same_attach : left.loader.attach ≡ 0
   pub no_session : left.loader.session ≡ Closed
 
--- For either status length, every image, offset, block size and flash that the sender does not refuse, and every way of feeding the load; `flash` is what stood there before the first byte.
+-- For every image, offset, block size and flash that the sender does not refuse, and every way of feeding the load; `flash` is what stood there before the first byte.
 abbrev pub ImageStands : Type 0
 ImageStands =
-    (tail : ℕ) → status_length tail ≡ true → (image : List ℕ) (offset block : ℕ) (buffer flash words : List ℕ) (told : List Told) (left : Machine)
+    (image : List ℕ) (offset block : ℕ) (buffer flash words : List ℕ) (told : List Told) (left : Machine)
     → IsBytes image → load_refusal (length image) offset block (length flash) ≡ 0 → Accepted buffer words
-    → LineFed tail buffer flash words (load_line image offset block) told left
+    → LineFed buffer flash words (load_line image offset block) told left
     → Loads image offset flash words left

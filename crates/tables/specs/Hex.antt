@@ -1,5 +1,6 @@
 -- Bytes as text: two hexadecimal digits each, in upper case.
 use Rattle.std.specs.Prelude.{ℕ, zero, suc, ◌+◌, ◌-◌, ◌*◌, ◌/◌, ◌%◌, Bool, true, false, cond, ◌&&◌, ◌||◌, List, [], ◌∷◌, ◌++◌, length, ◌==◌, nat_le, slice_index}
+use Rattle.digits.specs.Hex.{hex2}
 
 -- 0 to 9, A to F
 unfoldable pub is_digit : ℕ → Bool
@@ -29,6 +30,14 @@ bytes_in s (suc n) = bytes_in s n ++ (pair_at s (2 * n) ∷ [])
 -- the bytes that a text says
 unfoldable pub unhex : List ℕ → List ℕ
 unhex s = bytes_in s (length s / 2)
+
+-- the digits of the first n bytes, and of all
+unfoldable pub digits_in : List ℕ → ℕ → List ℕ
+digits_in s zero = []
+digits_in s (suc n) = digits_in s n ++ hex2 (slice_index s n)
+
+unfoldable pub hex_text : List ℕ → List ℕ
+hex_text s = digits_in s (length s)
 
 -- the most bytes that a line shows
 abbrev pub most_shown : ℕ

@@ -2,10 +2,9 @@
 ghost use Rattle.std.specs.Prelude.{◌≡◌, ◌+◌, ◌-◌, ◌*◌, ◌/◌, ◌%◌, ◌<◌, ◌≤◌, false, [], ◌∷◌, length, if◌then◌else◌, nat_le};
 ghost use Rattle.lists.specs.Lay.{lay, lay_if_fits};
 ghost use Rattle.lists.specs.Bytes.{same_bytes};
-ghost use Rattle.digits.specs.Hex.{upper_a, hex_text};
 ghost use Rattle.tables.specs.Fields.{part_of, past_of, row_of};
 ghost use Rattle.tables.specs.Rows.{number_of, line_of};
-ghost use Rattle.tables.specs.Hex.{is_digit, value_of, is_hex, all_digits, pair_at, bytes_in, unhex, most_shown};
+ghost use Rattle.tables.specs.Hex.{is_digit, value_of, is_hex, all_digits, pair_at, bytes_in, unhex, hex_text, most_shown};
 
 use libc::STDOUT_FILENO;
 
@@ -186,6 +185,29 @@ pub fn decode(text: &[u8], dst: &mut [u8])
     }
 }
 
+// The loop of `encode`, where the digits fit.
+fn encode_fitting(bytes: &[u8], dst: &mut [u8])
+    requires { 2 * length bytes.now ≤ length dst.old }
+    ensures { dst.new ≡ lay dst.old 0 (hex_text bytes.now) }
+{
+    let mut i: usize = 0;
+    while i < bytes.len() {
+        let digits = digits::hex(bytes[i]);
+        dst[2 * i] = digits[0];
+        dst[2 * i + 1] = digits[1];
+        i += 1;
+    }
+}
+
+// Writes bytes in hex to the front of a buffer, or nothing where the digits do not fit.
+pub fn encode(bytes: &[u8], dst: &mut [u8])
+    ensures { dst.new ≡ lay_if_fits dst.old 0 (hex_text bytes.now) }
+{
+    if bytes.len() <= dst.len() / 2 {
+        encode_fitting(bytes, dst);
+    }
+}
+
 // A byte at the front of a buffer; how many bytes that is.
 pub fn put_byte(byte: u8, dst: &mut [u8]) -> usize
     ensures { (result ≡ 1) × (dst.new ≡ lay_if_fits dst.old 0 (byte ∷ [])) }
@@ -212,7 +234,7 @@ pub const MOST_SHOWN: usize = 128;
 // Prints the line of a vector: its source and name, what was expected, as text in hex, and `ok`, or `WRONG` and what came. Whether it
 // came as expected; more than 128 bytes are not, and are not shown.
 pub fn show(head: &[u8], expected: &[u8], got: &[u8]) -> bool
-    ensures { result ≡ (if nat_le (length got.now) most_shown then same_bytes expected.now (hex_text upper_a got.now) else false) }
+    ensures { result ≡ (if nat_le (length got.now) most_shown then same_bytes expected.now (hex_text got.now) else false) }
 {
     io::write_all(STDOUT_FILENO, head);
     io::write_all(STDOUT_FILENO, expected);
@@ -220,9 +242,9 @@ pub fn show(head: &[u8], expected: &[u8], got: &[u8]) -> bool
         io::write_all(STDOUT_FILENO, b"\tWRONG\ttoo long\n");
         return false;
     }
-    let mut shown = [0u8; 2 * MOST_SHOWN];
-    digits::write_upper(got, &mut shown);
-    let text = &shown[..2 * got.len()];
+    let mut digits = [0u8; 2 * MOST_SHOWN];
+    encode(got, &mut digits);
+    let text = &digits[..2 * got.len()];
     if lists::same(expected, text) {
         io::write_all(STDOUT_FILENO, b"\tok\n");
         return true;

@@ -25,7 +25,6 @@ ghost use Rattle.loader_claims.specs.RunsAreBytes.{RunsAreBytes};
 ghost use Rattle.loader_claims.specs.HoweverCut.{HoweverCut};
 ghost use Rattle.loader_claims.specs.Arrives.{PacketArrives, FrameArrives};
 ghost use Rattle.loader_claims.specs.RunArrives.{RunArrives};
-ghost use Rattle.loader_claims.specs.Tails.{TailsApart};
 ghost use Rattle.loader_claims.specs.WorkedLoad.{WorkedLoad};
 ghost use Rattle.sender.specs.Theorems.{FrameFits, NumbersAreWords, FileIsWhole, EmptyImage};
 ghost use Rattle.sender_claims.specs.Reads.{SenderWrites, SenderIsRead};
@@ -51,7 +50,6 @@ ghost use Rattle.link_claims.specs.Same.{SameAnswers};
 ghost use Rattle.link_claims.specs.Power.{PowerIs};
 ghost use Rattle.link_claims.specs.WorkedPower.{WorkedPower};
 ghost use Rattle.cases.specs.Cases.{Starred};
-ghost use Rattle.cases.specs.Status.{StatusCases};
 ghost use Rattle.cases.specs.Digests.{DigestCases};
 ghost use Rattle.cases.specs.Pins.{PinCases};
 ghost use Rattle.cases.specs.Example.{Example};
@@ -241,9 +239,8 @@ pub fn sixteen_bytes()
     ensures { SixteenBytes }
 {}
 
-// A call that closes a good SPI_FLASH_MD5, whatever session is open, answers it with the digest of the bytes named, raw before two status
-// bytes and in hex before four, and session, attach word, flash and words stay; every other is answered with 0xC0 or 0xC5 and no digest,
-// and they stay too.
+// A call that closes a good SPI_FLASH_MD5, whatever session is open, answers it with the digest of the bytes named, and session, attach
+// word, flash and words stay; every other is answered with 0xC0 or 0xC5 and no digest, and they stay too.
 pub fn digest_answered()
     ensures { DigestAnswered }
 {}
@@ -261,15 +258,6 @@ pub fn load_is_digested()
 // SPI_FLASH_MD5, good or not, is filler in the grammar of demand 3.
 pub fn digest_is_filler()
     ensures { DigestIsFiller }
-{}
-
-// ---- The status length: two or four.
-
-// With the same calls, whatever their answer buffers hold, from a fresh record of either status length, the same bytes are taken and the
-// same is told, and line, session, attach word, packet buffer, flash and words are equal after every call: only what is sent, and how
-// many bytes that is, differs.
-pub fn tails_apart()
-    ensures { TailsApart }
 {}
 
 // ---- Demand 3: FLASH_END succeeds exactly where the packets so far fit the grammar, and flash is then as announced.
@@ -295,7 +283,7 @@ pub fn calls_are_history()
     ensures { CallsAreHistory }
 {}
 
-// The whole, over either status length, every packet buffer, flash, memory and list of run calls.
+// The whole, over every packet buffer, flash, memory and list of run calls.
 pub fn demand_3_runs()
     ensures { Demand3Runs }
 {}
@@ -364,9 +352,9 @@ pub fn numbers_are_words()
     ensures { NumbersAreWords }
 {}
 
-// A load that the sender does not refuse for a flash, fed to a fresh loader of either status length with that flash, and other buffers
-// that it accepts, by byte calls, by run calls, or cut anywhere: the calls that close a packet are its packets, one for one, each
-// answered with success; and so after every packet.
+// A load that the sender does not refuse for a flash, fed to a fresh loader with that flash, and other buffers that it accepts, by byte
+// calls, by run calls, or cut anywhere: the calls that close a packet are its packets, one for one, each answered with success; and so
+// after every packet.
 pub fn every_packet_succeeds()
     ensures { EveryPacketSucceeds }
 {}
@@ -514,13 +502,7 @@ pub fn starred()
     ensures { Starred }
 {}
 
-// Worked cases of the status length: what is made and what is refused, 89 and 90 bytes of answer buffer, answers with four status bytes,
-// 003's trace among them.
-pub fn status_cases()
-    ensures { StatusCases }
-{}
-
-// Cases of the digest command: of "abc" and of no bytes at the end of flash, raw and in hex, and with words that break its rule.
+// Cases of the digest command: of "abc", of no bytes at the end of flash, and with words that break its rule.
 pub fn digest_cases()
     ensures { DigestCases }
 {}

@@ -19,18 +19,6 @@ decreases-loop fd name packet₀ answer₀ flash₀ words₀ state₀ goes-on₀
 new-requires : tie.Need-new-requires invariant-loop decreases-loop
 new-requires c κs = search rules
 
-enum-known-fresh : tie.Need-enum-known-fresh invariant-loop decreases-loop
-enum-known-fresh c = search rules
-
-enum_told : tie.Need-enum-told invariant-loop decreases-loop
-enum_told c = search rules
-
-say-refused-requires : tie.Need-say-refused-requires invariant-loop decreases-loop
-say-refused-requires c κs = search rules
-
-returns : tie.Need-returns invariant-loop decreases-loop
-returns c = search rules
-
 heading-requires : tie.Need-heading-requires invariant-loop decreases-loop
 heading-requires c κs = search rules
 
@@ -67,11 +55,11 @@ loop-less c = omega (arith, ltb-true)
 loop-again : tie.Need-loop-preserved invariant-loop decreases-loop
 loop-again c = search rules
 
+returns : tie.Need-returns invariant-loop decreases-loop
+returns c = search rules
+
 returns-2 : tie.Need-returns-2 invariant-loop decreases-loop
 returns-2 c = search rules
-
-returns-3 : tie.Need-returns-3 invariant-loop decreases-loop
-returns-3 c = search rules
 
 pub list_all_spec : {M : Type 1} → statement M
 list_all_spec =
@@ -80,10 +68,6 @@ list_all_spec =
     invariant-loop
     decreases-loop
     new-requires
-    enum-known-fresh
-    enum_told
-    say-refused-requires
-    returns
     heading-requires
     slice-aggregate-write-out
     write-out-requires
@@ -96,5 +80,5 @@ list_all_spec =
     sub-reads
     loop-less
     loop-again
-    returns-2
-    returns-3)
+    returns
+    returns-2)

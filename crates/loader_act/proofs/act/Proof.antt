@@ -1,4 +1,3 @@
-use mathlib.Core.Path.{refl}
 use Rattle.loader_act.proofs.Acts.{acts_dropped, acts_read}
 use borrow.Author.Rules.{rules}
 use Rattle.loader_act.proofs.act.Statement.{statement}
@@ -40,8 +39,7 @@ returns-2 c =
     let at-obey = at-reply.before.before.before.before.before.before.before in
     let at-closed = at-obey.before.before.before.before in
     let at-read-packet = at-closed.before.before in
-    let a = at-read-packet.before.before.before.before.before.args in
-    acts_read a.loader _ _ _ _ _ at-read-packet.read-packet.ensures _ _ _ _ _ at-obey.obey.result _ _ _ at-closed.closed.given.1 at-obey.obey.ensures at-reply.reply.ensures refl refl refl
+    acts_read _ _ _ _ _ _ at-read-packet.read-packet.ensures _ _ _ _ _ _ at-closed.closed.given.1 at-obey.obey.ensures at-reply.reply.ensures
 
 pub act_spec : {M : Type 1} → statement M
 act_spec =

@@ -1,23 +1,14 @@
 -- The header, the body and the status bytes are framed as the parts of one answer.
-use mathlib.Core.Path.{refl, sym}
+use mathlib.Core.Path.{refl}
 use native.Mathlib.Omega.{arith}
 use borrow.Author.Rules.{rules}
-use lib.Seq.{length-take-le}
 use Rattle.slip_framing.proofs.Refusals.{framed_as}
 use Rattle.loader_answers.proofs.Replies.{replied, unreplied, answer-whole, too_long}
 use Rattle.loader_answers.proofs.send.Statement.{statement}
 use Rattle.loader_answers.proofs.send.Tie as tie
 
 returns : tie.Need-returns
-returns c =
-    let a = c.before.before.before.args in
-    too_long a.tail a.command a.error a.value a.body.now _ (omega arith)
-
-status-bytes-requires : tie.Need-status-bytes-requires
-status-bytes-requires c κs = search rules
-
-status-count-requires : tie.Need-status-count-requires
-status-count-requires c κs = search rules
+returns c = let a = c.before.before.before.args in too_long a.command a.value a.body.now a.status.now _ (omega arith)
 
 add-size : tie.Need-overflow-add-size
 add-size c = search rules
@@ -30,12 +21,6 @@ header-requires c κs = search rules
 
 slice-aggregate-frame-parts : tie.Need-slice-aggregate-frame-parts
 slice-aggregate-frame-parts c = search rules
-
-array-share-prefix-status : tie.Need-array-share-prefix-status
-array-share-prefix-status c = search rules
-
-slice-aggregate-frame-parts-2 : tie.Need-slice-aggregate-frame-parts-2
-slice-aggregate-frame-parts-2 c = sym (length-take-le _ c.before.before.before.before.status-bytes.result (omega arith))
 
 frame-parts-requires : tie.Need-frame-parts-requires
 frame-parts-requires c κs = search rules
@@ -53,10 +38,8 @@ returns-2 : tie.Need-returns-2
 returns-2 c =
     let at-frame = c.before.before.before.before in
     let at-header = at-frame.before.before.before.before in
-    let counted = at-header.before.status-count.ensures in
-    let status = at-header.before.before.status-bytes.ensures in
-    let a = at-header.before.before.before.before.before.before.args in
-    let e = answer-whole a.tail a.command a.error a.value _ _ at-header.header.result a.body.now _ status counted refl at-header.header.ensures in
+    let a = at-header.before.before.before.before.args in
+    let e = answer-whole a.command a.value _ at-header.header.result a.body.now a.status.now (omega arith) refl at-header.header.ensures in
     unreplied _ _ _ _ (framed_as _ _ _ _ _ e at-frame.frame-parts.ensures) _ c.enum_told.given.1
 
 same-length-2 : tie.Need-same-length-2
@@ -66,10 +49,8 @@ returns-3 : tie.Need-returns-3
 returns-3 c =
     let at-frame = c.before.before.before.before.before in
     let at-header = at-frame.before.before.before.before in
-    let counted = at-header.before.status-count.ensures in
-    let status = at-header.before.before.status-bytes.ensures in
-    let a = at-header.before.before.before.before.before.before.args in
-    let e = answer-whole a.tail a.command a.error a.value _ _ at-header.header.result a.body.now _ status counted refl at-header.header.ensures in
+    let a = at-header.before.before.before.before.args in
+    let e = answer-whole a.command a.value _ at-header.header.result a.body.now a.status.now (omega arith) refl at-header.header.ensures in
     replied _ _ _ _ (framed_as _ _ _ _ _ e at-frame.frame-parts.ensures) _ c.before.n.given.1
 
 pub send_spec : {M : Type 1} → statement M
@@ -77,14 +58,10 @@ send_spec =
     tie.close
     (tie.spec
     returns
-    status-bytes-requires
-    status-count-requires
     add-size
     cast-header
     header-requires
     slice-aggregate-frame-parts
-    array-share-prefix-status
-    slice-aggregate-frame-parts-2
     frame-parts-requires
     enum-known-n
     enum_told

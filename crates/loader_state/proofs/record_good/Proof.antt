@@ -10,14 +10,9 @@ session-good-requires c κs = search rules
 attach-good-requires : tie.Need-attach-good-requires
 attach-good-requires c κs = search rules
 
-status-length-good-requires : tie.Need-status-length-good-requires
-status-length-good-requires c κs = search rules
-
 returns : tie.Need-returns
 unfolding record_good
-returns c = rw (c.status-length-good.ensures, c.before.attach-good.ensures, c.before.before.session-good.ensures) refl
+returns c = rw (c.attach-good.ensures, c.before.session-good.ensures) refl
 
 pub record_good_spec : {M : Type 1} → statement M
-record_good_spec =
-    tie.close
-    (tie.spec session-good-requires attach-good-requires status-length-good-requires returns)
+record_good_spec = tie.close (tie.spec session-good-requires attach-good-requires returns)

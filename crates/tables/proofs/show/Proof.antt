@@ -19,20 +19,20 @@ write-all-requires-3 c κs = search rules
 returns : tie.Need-returns
 returns c = rw (lt-leb _ _ c.before.before.if1.true) refl
 
-slice-aggregate-write-upper : tie.Need-slice-aggregate-write-upper
-slice-aggregate-write-upper c = search rules
+slice-aggregate-encode : tie.Need-slice-aggregate-encode
+slice-aggregate-encode c = search rules
 
-write-upper-requires : tie.Need-write-upper-requires
-write-upper-requires c κs = search rules
+encode-requires : tie.Need-encode-requires
+encode-requires c κs = search rules
 
-mul-shown : tie.Need-overflow-mul-shown
-mul-shown c = search rules
+mul-digits : tie.Need-overflow-mul-digits
+mul-digits c = search rules
 
-array-share-prefix-shown : tie.Need-array-share-prefix-shown
-array-share-prefix-shown c = search rules
+array-share-prefix-digits : tie.Need-array-share-prefix-digits
+array-share-prefix-digits c = search rules
 
 slice-aggregate-text : tie.Need-slice-aggregate-text
-slice-aggregate-text c = let a = c.before.before.before.before.before.before.before.before.before.before.args in front_length _ a.got.now _ c.before.before.before.before.if1.false refl c.before.before.write-upper.ensures
+slice-aggregate-text c = let a = c.before.before.before.before.before.before.before.before.before.before.args in front_length _ a.got.now _ c.before.before.before.before.if1.false refl c.before.before.encode.ensures
 
 same-requires : tie.Need-same-requires
 same-requires c κs = search rules
@@ -44,7 +44,7 @@ write-all-requires-4 : tie.Need-write-all-requires-4
 write-all-requires-4 c κs = search rules
 
 returns-2 : tie.Need-returns-2
-returns-2 c = let a = c.before.before.before.before.before.before.before.before.before.before.before.before.before.before.args in rw (le-leb _ _ c.before.before.before.before.before.before.before.before.if1.false, ← (front _ a.got.now _ c.before.before.before.before.before.before.before.before.if1.false refl c.before.before.before.before.before.before.write-upper.ensures)) (sym c.before.before.if2.true ∙ c.before.before.before.same.ensures)
+returns-2 c = let a = c.before.before.before.before.before.before.before.before.before.before.before.before.before.before.args in rw (le-leb _ _ c.before.before.before.before.before.before.before.before.if1.false, ← (front _ a.got.now _ c.before.before.before.before.before.before.before.before.if1.false refl c.before.before.before.before.before.before.encode.ensures)) (sym c.before.before.if2.true ∙ c.before.before.before.same.ensures)
 
 slice-aggregate-write-all-3 : tie.Need-slice-aggregate-write-all-3
 slice-aggregate-write-all-3 c = search rules
@@ -62,7 +62,7 @@ write-all-requires-7 : tie.Need-write-all-requires-7
 write-all-requires-7 c κs = search rules
 
 returns-3 : tie.Need-returns-3
-returns-3 c = let a = c.before.before.before.before.before.before.before.before.before.before.before.before.before.before.before.before.before.args in rw (le-leb _ _ c.before.before.before.before.before.before.before.before.before.before.before.if1.false, ← (front _ a.got.now _ c.before.before.before.before.before.before.before.before.before.before.before.if1.false refl c.before.before.before.before.before.before.before.before.before.write-upper.ensures)) (sym c.before.before.before.before.before.if2.false ∙ c.before.before.before.before.before.before.same.ensures)
+returns-3 c = let a = c.before.before.before.before.before.before.before.before.before.before.before.before.before.before.before.before.before.args in rw (le-leb _ _ c.before.before.before.before.before.before.before.before.before.before.before.if1.false, ← (front _ a.got.now _ c.before.before.before.before.before.before.before.before.before.before.before.if1.false refl c.before.before.before.before.before.before.before.before.before.encode.ensures)) (sym c.before.before.before.before.before.if2.false ∙ c.before.before.before.before.before.before.same.ensures)
 
 pub show_spec : {M : Type 1} → statement M
 show_spec =
@@ -73,10 +73,10 @@ show_spec =
     slice-aggregate-write-all
     write-all-requires-3
     returns
-    slice-aggregate-write-upper
-    write-upper-requires
-    mul-shown
-    array-share-prefix-shown
+    slice-aggregate-encode
+    encode-requires
+    mul-digits
+    array-share-prefix-digits
     slice-aggregate-text
     same-requires
     slice-aggregate-write-all-2

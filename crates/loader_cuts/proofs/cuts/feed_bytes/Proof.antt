@@ -8,6 +8,9 @@ invariant-loop bytes left₀ packet₀ answer₀ flash₀ words₀ state₀ used
 abbrev decreases-loop : tie.decreases-loop
 decreases-loop bytes left₀ packet₀ answer₀ flash₀ words₀ state₀ used₀ i₀ left packet answer flash words state used i = length bytes - i
 
+new-requires : tie.Need-new-requires invariant-loop decreases-loop
+new-requires c κs = tt
+
 loop-holds : tie.Need-loop-init invariant-loop decreases-loop
 loop-holds c = tt
 
@@ -41,6 +44,7 @@ feed_bytes_spec =
     (tie.spec
     invariant-loop
     decreases-loop
+    new-requires
     loop-holds
     shared-slice-read-feed-byte
     feed-byte-requires

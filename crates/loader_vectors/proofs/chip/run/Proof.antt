@@ -10,8 +10,8 @@ invariant-loop bytes got₀ packet₀ flash₀ words₀ state₀ said₀ at₀ c
 abbrev decreases-loop : tie.decreases-loop
 decreases-loop bytes got₀ packet₀ flash₀ words₀ state₀ said₀ at₀ calls₀ got packet flash words state said at calls = length bytes - calls
 
-none-said-requires : tie.Need-none-said-requires invariant-loop decreases-loop
-none-said-requires c κs = tt
+new-requires : tie.Need-new-requires invariant-loop decreases-loop
+new-requires c κs = tt
 
 loop-holds : tie.Need-loop-init invariant-loop decreases-loop
 loop-holds c = refl
@@ -26,7 +26,7 @@ wrapping-add-usize-requires : tie.Need-wrapping-add-usize-requires invariant-loo
 wrapping-add-usize-requires c κs = tt
 
 add-calls : tie.Need-overflow-add-calls invariant-loop decreases-loop
-add-calls c = omega (arith, ltb-true c.before.before.before.before.before.before.before.before.before.before.before.before.loop.calls (length c.before.before.before.before.before.before.before.before.before.before.before.before.before.before.before.before.args.bytes.now) c.before.before.before.before.before.before.before.before.before.before.if1.true, c.before.before.before.before.before.before.before.before.before.before.before.before.before.before.before.before.well-formed.1.0.0)
+add-calls c = omega (arith, ltb-true c.before.before.before.before.before.before.before.before.before.before.before.before.loop.calls (length c.before.before.before.before.before.before.before.before.before.before.before.before.before.before.before.before.args.bytes.now) c.before.before.before.before.before.before.before.before.before.before.if1.true, c.before.before.before.before.before.before.before.before.before.before.before.before.before.before.before.before.well-formed.0.0)
 
 loop-less : tie.Need-loop-smaller invariant-loop decreases-loop
 loop-less c = omega (arith, ltb-true c.before.before.before.before.before.before.before.before.before.before.before.before.loop.calls (length c.before.before.before.before.before.before.before.before.before.before.before.before.before.before.before.before.args.bytes.now) c.before.before.before.before.before.before.before.before.before.before.if1.true)
@@ -49,7 +49,7 @@ run_spec =
     (tie.spec
     invariant-loop
     decreases-loop
-    none-said-requires
+    new-requires
     loop-holds
     feed-from-requires
     joined-requires

@@ -1,24 +1,12 @@
 use Rattle.std.proofs.Common.{◌+◌, ◌-◌, length, sym, arith, length-take-le, rules}
-use Rattle.loader_cuts.proofs.cuts.agreeing_with.Statement.{statement}
-use Rattle.loader_cuts.proofs.cuts.agreeing_with.Tie as tie
+use Rattle.loader_cuts.proofs.cuts.agreeing.Statement.{statement}
+use Rattle.loader_cuts.proofs.cuts.agreeing.Tie as tie
 
 abbrev invariant-loop : tie.invariant-loop
-invariant-loop tail bytes fresh expected count₀ cut₀ count cut = Unit {0}
+invariant-loop bytes expected count₀ cut₀ count cut = Unit {0}
 
 abbrev decreases-loop : tie.decreases-loop
-decreases-loop tail bytes fresh expected count₀ cut₀ count cut = length bytes + 1 - cut
-
-new-requires : tie.Need-new-requires invariant-loop decreases-loop
-new-requires c κs = tt
-
-enum-known-fresh : tie.Need-enum-known-fresh invariant-loop decreases-loop
-enum-known-fresh c = search rules
-
-enum_told : tie.Need-enum-told invariant-loop decreases-loop
-enum_told c = search rules
-
-returns : tie.Need-returns invariant-loop decreases-loop
-returns c = tt
+decreases-loop bytes expected count₀ cut₀ count cut = length bytes + 1 - cut
 
 feed-bytes-requires : tie.Need-feed-bytes-requires invariant-loop decreases-loop
 feed-bytes-requires c κs = tt
@@ -53,19 +41,15 @@ loop-less c = omega arith
 loop-again : tie.Need-loop-preserved invariant-loop decreases-loop
 loop-again c = tt
 
-returns-2 : tie.Need-returns-2 invariant-loop decreases-loop
-returns-2 c = tt
+returns : tie.Need-returns invariant-loop decreases-loop
+returns c = tt
 
-pub agreeing_with_spec : {M : Type 1} → statement M
-agreeing_with_spec =
+pub agreeing_spec : {M : Type 1} → statement M
+agreeing_spec =
     tie.close
     (tie.spec
     invariant-loop
     decreases-loop
-    new-requires
-    enum-known-fresh
-    enum_told
-    returns
     feed-bytes-requires
     loop-holds
     slice-aggregate-agrees
@@ -77,4 +61,4 @@ agreeing_with_spec =
     add-cut
     loop-less
     loop-again
-    returns-2)
+    returns)
