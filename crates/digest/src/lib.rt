@@ -1,4 +1,6 @@
 // The digest of RFC 1321, MD5, of a part of flash.
+#![tactic(auto)]
+
 ghost use Rattle.std.specs.Prelude.{◌≡◌, ◌++◌, ◌%◌, ◌^◌, length, take, drop};
 ghost use Rattle.fields.specs.Words.{bytes_of};
 ghost use Rattle.digest_block.specs.Tables.{sines};

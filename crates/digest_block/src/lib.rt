@@ -1,4 +1,6 @@
 // A block of sixteen words, mixed into the four registers as RFC 1321, 3.4, says.
+#![tactic(auto)]
+
 ghost use Rattle.std.specs.Prelude.{◌≡◌, ◌<◌, ◌≤◌};
 ghost use Rattle.digest_block.specs.Words.{rotated};
 ghost use Rattle.digest_block.specs.Functions.{mixed};

@@ -1,5 +1,7 @@
 // Runs the test suite of RFC 1321, A.5, on the code. Prints a line for each message, with its digest and `good`, or `bad` where that is
 // not the RFC's, and last how many are good.
+#![tactic(auto)]
+
 ghost use Rattle.std.specs.Prelude.{◌≤◌};
 
 use libc::STDOUT_FILENO;

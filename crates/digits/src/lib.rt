@@ -1,4 +1,6 @@
 // Numbers as text.
+#![tactic(auto)]
+
 ghost use Rattle.std.specs.Prelude.{◌≡◌, ◌<◌};
 ghost use Rattle.digits.specs.Hex.{hex_digit, hex2};
 

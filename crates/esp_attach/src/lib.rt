@@ -1,4 +1,6 @@
 // The pin word of SPI_ATTACH.
+#![tactic(auto)]
+
 ghost use Rattle.std.specs.Prelude.{◌≡◌};
 ghost use Rattle.esp_attach.specs.Pins.{fields_of, no_pins, fields_good, two_equal, attach_rule, attach_apart, attach_good};
 

@@ -1,4 +1,6 @@
 // What a BEGIN announces, and the rules for its numbers and for the length of flash.
+#![tactic(auto)]
+
 ghost use Rattle.std.specs.Prelude.{◌≡◌, ◌+◌, nat_le};
 ghost use Rattle.esp_begin.specs.Begin.{begin_of, round_up, counted, flash_rule, memory_end, memory_rule, reached};
 ghost use Rattle.esp_begin.specs.Count.{count_of};

@@ -1,4 +1,6 @@
 // What packets say: a read one's command, the shape of its body, a block's data; an answer's status. No record, no session.
+#![tactic(auto)]
+
 ghost use Rattle.std.specs.Prelude.{◌≡◌};
 ghost use Rattle.esp_commands.specs.Header.{command, sized, shaped, data_shaped};
 ghost use Rattle.esp_commands.specs.Block.{zero_words, sum_good, padding_good};

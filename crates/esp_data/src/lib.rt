@@ -1,4 +1,6 @@
 // FLASH_DATA, framed.
+#![tactic(auto)]
+
 ghost use Rattle.std.specs.Prelude.{◌≡◌, ◌++◌, ◌+◌, ◌≤◌, length};
 ghost use Rattle.fields.specs.Words.{bytes_of};
 ghost use Rattle.fields.specs.Header.{header_of};

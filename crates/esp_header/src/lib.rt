@@ -1,4 +1,6 @@
 // The header of a whole packet.
+#![tactic(auto)]
+
 ghost use Rattle.std.specs.Prelude.{◌≡◌};
 ghost use Rattle.slip_unframing.specs.Reasons.{whole};
 ghost use Rattle.slip_packets.specs.Packets.{header};

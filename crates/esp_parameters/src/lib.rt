@@ -1,4 +1,6 @@
 // The parameter rules of the commands but BEGIN and data.
+#![tactic(auto)]
+
 ghost use Rattle.std.specs.Prelude.{◌≡◌};
 ghost use Rattle.esp_parameters.specs.Parameters.{flash_end_rule, in_words, memory_end_rule, sync_rule, register_rule, write_rule, digest_rule, place};
 

@@ -1,4 +1,6 @@
 // The requests around the blocks of a load into flash, framed: SYNC, FLASH_BEGIN, FLASH_END.
+#![tactic(auto)]
+
 ghost use Rattle.std.specs.Prelude.{◌≡◌, ◌++◌};
 ghost use Rattle.fields.specs.Words.{bytes_of};
 ghost use Rattle.slip_framing.specs.Frame.{framing, Frames};

@@ -1,4 +1,6 @@
 // The fields of packets and frames: their places, words, headers, checksums, the masked merge.
+#![tactic(auto)]
+
 ghost use Rattle.std.specs.Prelude.{◌≡◌, ◌<◌, ◌%◌, get_or, drop};
 ghost use Rattle.fields.specs.Words.{word, half, bytes_of};
 ghost use Rattle.fields.specs.Header.{header_of};

@@ -1,4 +1,6 @@
 // The hand unit's end of the expansion protocol, as a record that each call takes and hands back.
+#![tactic(auto)]
+
 ghost use Rattle.std.specs.Prelude.{◌≡◌, List, true, ℕ, ◌≤◌, ◌<◌, length};
 ghost use Rattle.link_frames.specs.Frames.{most_held};
 ghost use Rattle.link_state.specs.Link.{store, held_of, kept};

@@ -1,4 +1,6 @@
 // What the link makes of a whole frame, all of it but the checksum held.
+#![tactic(auto)]
+
 mod power;
 
 ghost use Rattle.std.specs.Prelude.{◌≡◌, drop, get_or};

@@ -1,4 +1,6 @@
 // What the caller is told and what is sent; what the link makes of a pulled line.
+#![tactic(auto)]
+
 ghost use Rattle.std.specs.Prelude.{◌≡◌, true, false};
 ghost use Rattle.link_frames.specs.Writing.{Writes, fitting};
 ghost use Rattle.link_state.specs.Link.{by_phase};

@@ -1,4 +1,6 @@
 // Frames of the expansion protocol: how they are read byte by byte, by the edition, and how they are written.
+#![tactic(auto)]
+
 mod editions;
 
 ghost use Rattle.std.specs.Prelude.{◌≡◌, ◌∷◌, drop};

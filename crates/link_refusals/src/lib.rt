@@ -1,4 +1,6 @@
 // The refusals of the link's calls, by their numbers: which records refusal 5 lets pass, and the others in their order.
+#![tactic(auto)]
+
 ghost use Rattle.std.specs.Prelude.{◌≡◌, ◌∷◌, true, false, cond, nat_le};
 ghost use Rattle.lists.specs.Checks.{first};
 ghost use Rattle.link_state.specs.Link.{by_phase};

@@ -1,4 +1,6 @@
 // The link's record: how a phase starts, the rates, and what time does to a record.
+#![tactic(auto)]
+
 mod clock;
 
 ghost use Rattle.std.specs.Prelude.{◌≡◌};

@@ -1,5 +1,7 @@
 // Runs the link's vectors: a table, read from standard input, whose head says how its lines are written. Prints a line for each:
 // where it is from, what it is, what was expected, in hex, and `ok`, or `WRONG` and what came.
+#![tactic(auto)]
+
 mod names;
 mod probe;
 

@@ -1,5 +1,7 @@
 // Lists what a captured line says: a heading, and a line for each packet that it closes. The line's bytes are read to their end,
 // from the file that the argument names, or from standard input where there is none, into a fresh loader.
+#![tactic(auto)]
+
 use libc::{STDERR_FILENO, STDIN_FILENO, STDOUT_FILENO};
 use listing_report::{Listed, Listing};
 

@@ -1,4 +1,6 @@
 // The columns of the listing: its heading, and what stands behind a packet's number.
+#![tactic(auto)]
+
 ghost use Rattle.std.specs.Prelude.{◌≡◌};
 ghost use Rattle.digits.specs.Hex.{hex2};
 ghost use Rattle.slip_unframing.specs.Reasons.{letters};

@@ -1,4 +1,6 @@
 // The lines of the listing: a packet's number in decimal, and its fields behind it.
+#![tactic(auto)]
+
 ghost use Rattle.std.specs.Prelude.{◌≡◌, ◌++◌, ◌+◌, ◌≤◌, ◌<◌, length};
 ghost use Rattle.lists.specs.Lay.{lay};
 ghost use Rattle.loader_act.specs.Told.{told};

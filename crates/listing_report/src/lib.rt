@@ -1,4 +1,6 @@
 // The listing of received bytes: the call that lists a run of them.
+#![tactic(auto)]
+
 ghost use Rattle.std.specs.Prelude.{◌≡◌};
 ghost use Rattle.loader_act.specs.Told.{told};
 ghost use Rattle.listing_report.specs.Listing.{fresh_listing, number_after, list_report, report_of, list_step, Lists};

@@ -1,4 +1,6 @@
 // The chip's end of the ESP serial protocol: all that its caller needs, and the call with one byte.
+#![tactic(auto)]
+
 ghost use Rattle.loader.specs.Step.{step, Feeds};
 
 pub use loader_act::{Answer, Fed};

@@ -1,4 +1,6 @@
 // A whole packet that was closed: dropped by its header, or obeyed and answered.
+#![tactic(auto)]
+
 ghost use Rattle.std.specs.Prelude.{◌≡◌, length};
 ghost use Rattle.slip_unframing.specs.Reasons.{whole};
 ghost use Rattle.slip_packets.specs.Packets.{header};

@@ -1,4 +1,6 @@
 // The answer to a read packet, framed at the front of the answer buffer.
+#![tactic(auto)]
+
 ghost use Rattle.std.specs.Prelude.{◌≡◌, ◌++◌};
 ghost use Rattle.loader_answers.specs.Answer.{status_bytes, plain, answer_with, answer_bytes};
 ghost use Rattle.loader_answers.specs.Reply.{Replies};

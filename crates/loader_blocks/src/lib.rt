@@ -1,4 +1,6 @@
 // Blocks of a load, written into flash and into the words.
+#![tactic(auto)]
+
 ghost use Rattle.std.specs.Prelude.{◌≡◌, ◌+◌, ◌≤◌, length};
 ghost use Rattle.lists.specs.Lay.{lay};
 ghost use Rattle.esp_commands.specs.Block.{payload};

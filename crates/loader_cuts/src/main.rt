@@ -1,5 +1,7 @@
 // Runs the vectors of streams that are cut in two, a table that is read from standard input, and prints a line for each: where it is
 // from, what it is, what was expected, in hex, and `ok`, or `WRONG` and what came. The table's head says how its lines are written.
+#![tactic(auto)]
+
 mod calls;
 mod cuts;
 

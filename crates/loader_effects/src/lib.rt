@@ -1,4 +1,6 @@
 // A read packet's command: its error, or what it does.
+#![tactic(auto)]
+
 ghost use Rattle.std.specs.Prelude.{◌≡◌, true, ◌+◌, ◌^◌, ◌<◌, length, take, drop};
 ghost use Rattle.fields.specs.Places.{first_word, second_word};
 ghost use Rattle.fields.specs.Words.{word};

@@ -1,4 +1,6 @@
 // The error byte of a read packet: document 01's table, in its order, and 0xC7 of request Seven.
+#![tactic(auto)]
+
 ghost use Rattle.std.specs.Prelude.{◌≡◌};
 ghost use Rattle.lists.specs.Checks.{first};
 ghost use Rattle.loader_errors.specs.Errors.{plain_checks, attach_checks, data_checks, end_checks, error_of};

@@ -1,4 +1,6 @@
 // What END asks of the caller.
+#![tactic(auto)]
+
 ghost use Rattle.std.specs.Prelude.{◌≡◌, cond, min, nat_eq};
 ghost use Rattle.fields.specs.Places.{first_word, second_word};
 ghost use Rattle.fields.specs.Words.{word};

@@ -1,4 +1,6 @@
 // WRITE_REG and READ_REG on the words.
+#![tactic(auto)]
+
 ghost use Rattle.std.specs.Prelude.{◌≡◌};
 ghost use Rattle.loader_registers.specs.Registers.{register_read, register_written};
 

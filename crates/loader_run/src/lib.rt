@@ -1,4 +1,6 @@
 // The call that is made with each run of received bytes.
+#![tactic(auto)]
+
 ghost use Rattle.loader_run.specs.RunStep.{run_step, FeedsRun};
 
 use loader_act::{Answer, act};

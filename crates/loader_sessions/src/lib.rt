@@ -1,4 +1,6 @@
 // The open session: what it says, and whether refusal 5 lets it pass.
+#![tactic(auto)]
+
 ghost use Rattle.std.specs.Prelude.{◌≡◌};
 ghost use Rattle.loader_sessions.specs.Session.{flash_open, memory_open, announced, accepted, session_good, if_sound};
 

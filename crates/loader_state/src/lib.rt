@@ -1,4 +1,6 @@
 // The loader's record, and refusals 1 to 5.
+#![tactic(auto)]
+
 ghost use Rattle.std.specs.Prelude.{◌≡◌};
 ghost use Rattle.loader_state.specs.Record.{fresh_loader};
 ghost use Rattle.loader_state.specs.Refusals.{word_count, record_good, refusal};

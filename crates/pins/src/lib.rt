@@ -1,4 +1,6 @@
 // The packer of pins.
+#![tactic(auto)]
+
 ghost use Rattle.std.specs.Prelude.{◌≡◌, true};
 ghost use Rattle.pins.specs.Packer.{pin_good, pin_field, pins_good, pins_word, packing, packing_of};
 

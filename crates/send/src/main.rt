@@ -1,5 +1,7 @@
 // Writes a load into flash to standard output, framed, packet by packet: what a bench sends to the loader. The image is a file; its
 // offset, the block size and the flash length are numbers, decimal or hexadecimal behind 0x. Nothing is written unless the load is accepted.
+#![tactic(auto)]
+
 use esp_begin::LONGEST_FLASH;
 use libc::{STDERR_FILENO, STDOUT_FILENO};
 use sender::{Count, LONGEST_FRAME};

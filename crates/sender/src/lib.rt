@@ -1,4 +1,6 @@
 // The sending end of a load into flash: its packets, framed, one by one.
+#![tactic(auto)]
+
 ghost use Rattle.std.specs.Prelude.{◌≡◌, ◌≤◌, length};
 ghost use Rattle.slip_framing.specs.Frame.{framing, Frames};
 ghost use Rattle.esp_begin.specs.Begin.{flash_rule};

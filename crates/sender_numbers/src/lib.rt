@@ -1,4 +1,6 @@
 // Numbers as they are typed behind a program's name: decimal, or hexadecimal behind 0x.
+#![tactic(auto)]
+
 ghost use Rattle.std.specs.Prelude.{◌≡◌, ◌+◌, ◌*◌, ◌≤◌, min};
 ghost use Rattle.sender_numbers.specs.Numbers.{largest, digit_value, is_hex, digits_of, said, number_of};
 

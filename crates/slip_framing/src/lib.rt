@@ -1,4 +1,6 @@
 // Framing of packets by C0, with escapes.
+#![tactic(auto)]
+
 ghost use Rattle.std.specs.Prelude.{◌≡◌, ◌++◌, ◌+◌, ◌≤◌, min, length};
 ghost use Rattle.lists.specs.Lay.{lay};
 ghost use Rattle.slip_framing.specs.Frame.{longest, escape_of, escaped, framed, framing, Frames};

@@ -1,4 +1,6 @@
 // A run of line bytes, stepped at once up to the byte that closes a packet.
+#![tactic(auto)]
+
 ghost use Rattle.std.specs.Prelude.{◌≡◌};
 ghost use Rattle.slip_runs.specs.Run.{closes, run_of, Runs};
 

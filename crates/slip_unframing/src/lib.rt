@@ -1,4 +1,6 @@
 // Unframing: the byte step, which stores a packet's bytes and closes it at C0.
+#![tactic(auto)]
+
 ghost use Rattle.std.specs.Prelude.{◌≡◌, ℕ, List};
 ghost use Rattle.slip_unframing.specs.Line.{line_state, fresh, store, await_end, phase_step, step_of, Steps};
 

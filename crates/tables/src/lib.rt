@@ -1,4 +1,6 @@
 // The text of a table of vectors: fields that a byte ends, bytes in hex, and the line of a vector.
+#![tactic(auto)]
+
 ghost use Rattle.std.specs.Prelude.{◌≡◌, ◌+◌, ◌-◌, ◌*◌, ◌/◌, ◌%◌, ◌<◌, ◌≤◌, false, [], ◌∷◌, length, if◌then◌else◌, nat_le};
 ghost use Rattle.lists.specs.Lay.{lay, lay_if_fits};
 ghost use Rattle.lists.specs.Bytes.{same_bytes};

@@ -1,4 +1,6 @@
 // Every theorem, a function each: the contract is the theorem, and a theorem without a proof is an unproved function.
+#![tactic(auto)]
+
 ghost use Rattle.loader_claims.specs.ChangesNothing.{RefusedChangesNothing, RunRefusedChangesNothing, EmptyRunChangesNothing};
 ghost use Rattle.loader_claims.specs.ChangesNothing.{FailedChangesNothing, RunFailedChangesNothing};
 ghost use Rattle.slip_packets.specs.Theorems.{RoundTrip, FrameComesBack, CutOfFrame, StepsAreCut};
