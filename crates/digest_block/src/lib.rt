@@ -10,7 +10,7 @@ ghost use Rattle.digest_block.specs.Rounds.{operation_of, four_of, round_of, rou
 use std::num::wrapping_add_u32;
 
 // The registers A, B, C and D.
-#[derive(Drop)]
+#[derive(Clone, Copy)]
 pub struct Registers {
     pub a: u32,
     pub b: u32,

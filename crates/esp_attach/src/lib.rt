@@ -5,7 +5,7 @@ ghost use Rattle.std.specs.Prelude.{◌≡◌};
 ghost use Rattle.esp_attach.specs.Pins.{fields_of, no_pins, fields_good, two_equal, attach_rule, attach_apart, attach_good};
 
 // The pins of an SPI flash, or the fields of a word that say them.
-#[derive(Drop)]
+#[derive(Clone, Copy)]
 pub struct Pins {
     pub hd: u32,
     pub q: u32,

@@ -9,7 +9,7 @@ ghost use Rattle.esp_begin.specs.Flash.{flash_length};
 use fields::{FIRST_WORD, FOURTH_WORD, SECOND_WORD, THIRD_WORD};
 
 // What a BEGIN announces: size S, block count n, block size b, and the offset or address.
-#[derive(Drop)]
+#[derive(Clone, Copy)]
 pub struct Begin {
     pub size: u32,
     pub count: u32,
@@ -18,7 +18,7 @@ pub struct Begin {
 }
 
 // The lengths lent: flash in bytes, memory in words.
-#[derive(Drop)]
+#[derive(Clone, Copy)]
 pub struct Lengths {
     pub flash: usize,
     pub words: usize,

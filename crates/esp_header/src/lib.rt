@@ -9,7 +9,7 @@ ghost use Rattle.esp_header.specs.Classified.{classified};
 use slip_unframing::Reason;
 
 // A closed packet: dropped for a reason, or read, with its command.
-#[derive(Drop)]
+#[derive(Clone, Copy)]
 pub enum Packet {
     Dropped(Reason),
     Read(u8),

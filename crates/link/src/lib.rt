@@ -17,7 +17,7 @@ pub use link_frames::{FIRST_EDITION, Holder, LATER_EDITION, Payload};
 pub use link_state::{Link, Opening, Phase, new};
 
 // What a call tells, in the order in which the caller acts on it.
-#[derive(Drop)]
+#[derive(Clone, Copy)]
 pub struct Told {
     // The link was lost to silence before this call did anything else: the line goes back to 9600, the 5 V are switched off if they are on,
     // and outstanding data and the bytes of an unfinished frame are gone.
@@ -31,7 +31,7 @@ pub struct Told {
 }
 
 // What a call hands back.
-#[derive(Drop)]
+#[derive(Clone, Copy)]
 pub struct Next {
     // The record to hand to the next call; the one handed over is of no more use.
     pub link: Link,

@@ -12,7 +12,7 @@ use link_state::{Link, Phase};
 
 // What the caller is told. Whichever it is, the first `sent` bytes of the answer buffer are to be sent, and the record that comes back
 // is to be kept.
-#[derive(Drop)]
+#[derive(Clone, Copy)]
 pub enum Event {
     // No more is to be done.
     Nothing,
@@ -39,7 +39,7 @@ pub enum Event {
 }
 
 // What is sent for a frame. A caller of the link does not meet it: there the bytes stand in the answer buffer.
-#[derive(Drop)]
+#[derive(Clone, Copy)]
 pub enum Reply {
     Nothing,
     Heartbeat,
@@ -48,7 +48,7 @@ pub enum Reply {
 }
 
 // What the link makes of a pull or a byte, before anything is written. A caller of the link does not meet it either.
-#[derive(Drop)]
+#[derive(Clone, Copy)]
 pub struct Turn {
     pub link: Link,
     pub event: Event,

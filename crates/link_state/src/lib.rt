@@ -18,7 +18,7 @@ pub const FIRST_RATE: u32 = 9600;
 const UNKNOWN_EDITION: u8 = 18;
 
 // The phases of a connection. The caller keeps the line at 9600 but in Open.
-#[derive(Drop)]
+#[derive(Clone, Copy)]
 pub enum Phase {
     // No connection: a pull of the line is awaited, and bytes are ignored.
     Start,
@@ -29,7 +29,7 @@ pub enum Phase {
 }
 
 // The link's record. A caller makes it with `new`, hands it to each call and keeps the one that comes back; it sets no field itself.
-#[derive(Drop)]
+#[derive(Clone, Copy)]
 pub struct Link {
     // What the link was opened for: 1, the first edition of the protocol, or 2, the later one. No call changes it.
     pub edition: u8,
@@ -127,7 +127,7 @@ pub fn after_checks(link: Link, tick: u32) -> Link
 }
 
 // What opening a link gives.
-#[derive(Drop)]
+#[derive(Clone, Copy)]
 pub struct Opening {
     // 0, or 18 where there is no such edition.
     pub refusal: u8,

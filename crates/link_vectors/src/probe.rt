@@ -22,7 +22,7 @@ const POWERED: u8 = 0x07;
 
 // A link, and of its last call the event, with the status, number or power state that it tells, the bytes of data that it handed over, and
 // how many it sent; and how many bytes of its row were heard up to it, and whether one of the row's calls told that the link was lost.
-#[derive(Drop)]
+#[derive(Clone, Copy)]
 pub struct Probe {
     link: Link,
     event: u8,
@@ -35,7 +35,7 @@ pub struct Probe {
 }
 
 // An event's number, the status, number or power state that it tells, and how many bytes it hands over.
-#[derive(Drop)]
+#[derive(Clone, Copy)]
 struct Told {
     event: u8,
     detail: u8,

@@ -9,7 +9,7 @@ use listing_report::{Listed, Listing};
 const TEXT: usize = 512;
 
 // The next state, and whether to go on.
-#[derive(Drop)]
+#[derive(Clone, Copy)]
 struct Turn {
     listing: Listing,
     goes_on: bool,

@@ -22,7 +22,7 @@ pub type HeadingBytes = [u8; 24];
 pub type RowFields = [u8; 10];
 
 // What stands behind the number of a dropped packet: so many bytes from the front.
-#[derive(Drop)]
+#[derive(Clone, Copy)]
 pub struct DroppedFields {
     pub bytes: [u8; 13],
     pub count: usize,

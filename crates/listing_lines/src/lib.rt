@@ -14,7 +14,7 @@ use loader_act::Answer;
 pub const LONGEST_LINE: usize = 33;
 
 // What `line` says.
-#[derive(Drop)]
+#[derive(Clone, Copy)]
 pub enum Written {
     // fewer than 33 bytes are left in the buffer: nothing is written
     Full,

@@ -11,14 +11,14 @@ pub use listing_lines::{LONGEST_LINE, Written, line};
 use loader::{Answer, Loader};
 
 // A loader, and the number of the next packet.
-#[derive(Drop)]
+#[derive(Clone, Copy)]
 pub struct Listing {
     pub loader: Loader,
     pub number: u64,
 }
 
 // What `feed_run` says.
-#[derive(Drop)]
+#[derive(Clone, Copy)]
 pub enum Listed {
     // fewer than 33 bytes are left in the text's buffer: nothing is fed, and nothing changes
     Full,

@@ -12,7 +12,7 @@ use loader_state::Loader;
 use slip_unframing::Reason;
 
 // What a call answers.
-#[derive(Drop)]
+#[derive(Clone, Copy)]
 pub enum Answer {
     // refused with this number: no byte is taken and nothing has changed. Put right what was lent or handed over (1 packet buffer,
     // 2 answer buffer, 3 flash, 4 words, 5 record), and feed the same bytes again
@@ -35,7 +35,7 @@ pub enum Answer {
 }
 
 // The answer to one byte, and the record for the next call, whatever the answer.
-#[derive(Drop)]
+#[derive(Clone, Copy)]
 pub struct Fed {
     pub answer: Answer,
     pub loader: Loader,

@@ -21,7 +21,7 @@ const STATUS_LENGTH: usize = 2;
 type StatusBytes = [u8; STATUS_LENGTH];
 
 // What stands before the status bytes: a digest, or nothing. The digest is then not looked at; `plain` has zeros.
-#[derive(Drop)]
+#[derive(Clone, Copy)]
 pub struct Body {
     pub digested: bool,
     pub digest: [u8; 16],

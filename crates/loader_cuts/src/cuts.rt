@@ -24,7 +24,7 @@ const WORDS_AT: usize = FLASH_AT + FLASH_LENGTH;
 const LEFT: usize = WORDS_AT + 4 * WORDS;
 
 // The record after some calls, and the place behind what they told.
-#[derive(Drop)]
+#[derive(Clone, Copy)]
 struct Handed {
     loader: Loader,
     used: usize,

@@ -23,7 +23,7 @@ use loader_sessions::Session;
 
 // What a command comes to, flash and words apart: its error, the session and attach word after it, the value of its answer and what stands
 // there before the status bytes, and what the caller is told.
-#[derive(Drop)]
+#[derive(Clone, Copy)]
 pub struct Done {
     pub error: u8,
     pub session: Session,

@@ -9,7 +9,7 @@ ghost use Rattle.loader_notes.specs.Notes.{noted, end_word, end_jump};
 use fields::{FIRST_WORD, SECOND_WORD};
 
 // What END asks of the caller, to be done once the answer has been sent.
-#[derive(Drop)]
+#[derive(Clone, Copy)]
 pub enum Note {
     // nothing: no END, or one that failed
     Nothing,

@@ -9,7 +9,7 @@ use slip_unframing::Closing;
 
 // The answer to a run, how many of its bytes were taken, and the record for the next call, whatever the answer. Where a packet was
 // closed, the bytes behind `taken` are for the next call.
-#[derive(Drop)]
+#[derive(Clone, Copy)]
 pub struct RunFed {
     pub taken: usize,
     pub answer: Answer,

@@ -7,7 +7,7 @@ ghost use Rattle.loader_sessions.specs.Session.{flash_open, memory_open, announc
 use esp_begin::{Begin, Lengths};
 
 // The open session: none, flash or memory, with what its BEGIN announced and how many blocks are accepted.
-#[derive(Drop)]
+#[derive(Clone, Copy)]
 pub enum Session {
     Closed,
     Flash(Begin, u32),

@@ -13,7 +13,7 @@ use slip_framing::LONGEST;
 use slip_unframing::Line;
 
 // The loader's record. The caller keeps what each call hands back, and hands it to the next call.
-#[derive(Drop)]
+#[derive(Clone, Copy)]
 pub struct Loader {
     pub line: Line,
     pub session: Session,

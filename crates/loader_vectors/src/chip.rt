@@ -23,7 +23,7 @@ const SILENT: u8 = 0xEE;
 
 // Of some calls: how many packets they closed, the bits of all their errors; of the last one, whether it did not answer, how many
 // bytes it sent, and all that it told.
-#[derive(Drop)]
+#[derive(Clone, Copy)]
 struct Said {
     closed: u8,
     errors: u8,

@@ -13,7 +13,7 @@ const IMAGE: usize = 16384;
 const LINE: usize = 65536;
 
 // The numbers of a load: offset, block size, flash length, image length.
-#[derive(Drop)]
+#[derive(Clone, Copy)]
 struct Numbers {
     offset: usize,
     block: usize,

@@ -7,7 +7,7 @@ ghost use Rattle.pins.specs.Packer.{pin_good, pin_field, pins_good, pins_word, p
 pub use esp_attach::Pins;
 
 // What the packer answers: the word, or its refusal's number.
-#[derive(Drop)]
+#[derive(Clone, Copy)]
 pub enum Packed {
     Word(u32),
     Refused(u8),

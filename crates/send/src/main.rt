@@ -12,7 +12,7 @@ use slip_framing::Framed;
 const IMAGE_SPACE: usize = LONGEST_FLASH + 1;
 
 // Where in flash the image goes, in blocks of what size, and how long the flash is.
-#[derive(Drop)]
+#[derive(Clone, Copy)]
 struct Place {
     offset: usize,
     block: usize,

@@ -14,7 +14,7 @@ use lists::check;
 pub use slip_framing::{Framed, LONGEST_FRAME};
 
 // How many packets a load has.
-#[derive(Drop)]
+#[derive(Clone, Copy)]
 pub enum Count {
     // refused with this number: there is nothing to send
     Refused(u8),

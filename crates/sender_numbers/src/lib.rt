@@ -5,7 +5,7 @@ ghost use Rattle.std.specs.Prelude.{◌≡◌, ◌+◌, ◌*◌, ◌≤◌, min}
 ghost use Rattle.sender_numbers.specs.Numbers.{largest, digit_value, is_hex, digits_of, said, number_of};
 
 // What a text says.
-#[derive(Drop)]
+#[derive(Clone, Copy)]
 pub enum Number {
     // it is no number
     Wrong,

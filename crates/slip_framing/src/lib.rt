@@ -21,7 +21,7 @@ pub const ESC_END: u8 = 0xDC;
 pub const ESC_ESC: u8 = 0xDD;
 
 // What the framing routine answers.
-#[derive(Drop)]
+#[derive(Clone, Copy)]
 pub enum Framed {
     // refused with this number: nothing is written, and there is nothing to send
     Refused(u8),

@@ -7,7 +7,7 @@ ghost use Rattle.slip_runs.specs.Run.{closes, run_of, Runs};
 use slip_unframing::{Closing, Line};
 
 // What a run comes to.
-#[derive(Drop)]
+#[derive(Clone, Copy)]
 pub struct Ran {
     // how many of its bytes were taken, from the front: the rest is for the next call
     pub taken: usize,

@@ -7,7 +7,7 @@ ghost use Rattle.slip_unframing.specs.Line.{line_state, fresh, store, await_end,
 use slip_framing::{END, ESC, ESC_END, ESC_ESC, LONGEST};
 
 // Where the line stands: before the first C0, inside a packet, after DB, after a bad escape, past the longest packet.
-#[derive(Drop)]
+#[derive(Clone, Copy)]
 pub enum Phase {
     Outside,
     Inside,
@@ -17,7 +17,7 @@ pub enum Phase {
 }
 
 // The line's state: its phase, and how many bytes of the open packet are stored. The caller keeps it from byte to byte.
-#[derive(Drop)]
+#[derive(Clone, Copy)]
 pub struct Line {
     pub phase: Phase,
     pub held: usize,
@@ -25,7 +25,7 @@ pub struct Line {
 
 // Why a packet is dropped, by what happened first in it. The first three are told when it is closed; a whole packet is judged by its
 // header.
-#[derive(Drop)]
+#[derive(Clone, Copy)]
 pub enum Reason {
     // DB before a byte that is no part of an escape
     BadEscape,
@@ -40,7 +40,7 @@ pub enum Reason {
 }
 
 // What a byte closes.
-#[derive(Drop)]
+#[derive(Clone, Copy)]
 pub enum Closing {
     // nothing: feed the next byte
     Open,
@@ -51,7 +51,7 @@ pub enum Closing {
 }
 
 // What a byte closes, and the state for the next byte.
-#[derive(Drop)]
+#[derive(Clone, Copy)]
 pub struct Stepped {
     pub closing: Closing,
     pub line: Line,

@@ -14,7 +14,7 @@ pub const TAB: u8 = 9;
 
 // Where the fields of a row start: after its source and its name, the operation, the bytes in and the bytes expected. Where tabs are
 // missing, they start at the line's end.
-#[derive(Drop)]
+#[derive(Clone, Copy)]
 pub struct Row {
     pub operation: usize,
     pub input: usize,
@@ -22,7 +22,7 @@ pub struct Row {
 }
 
 // A line of a table: a comment, which an empty line is too, a row with its operation's number, or what is no row.
-#[derive(Drop)]
+#[derive(Clone, Copy)]
 pub enum Line {
     Comment,
     Row(u8, Row),
