@@ -1,0 +1,12 @@
+use mathlib.Core.Path.{refl}
+use borrow.Author.Rules.{rules}
+use Rattle.sender_numbers.specs.Numbers.{is_hex}
+use Rattle.sender_numbers.proofs.DigitByDigit.{short_no_hex}
+use Rattle.sender_numbers.proofs.is_hex.Goals as goal
+
+pub returns-then-text-lt2 : goal.returns-then-text-lt2
+returns-then-text-lt2 c = short_no_hex c.args.text.now c.if-text-lt2.true
+
+pub returns : goal.returns
+unfolding is_hex
+returns c = refl
