@@ -1,0 +1,15 @@
+-- Past the end nothing is left.
+use lib.ListN.{length, drop, length-drop, drop_of_length-le}
+use Prim.Native.Nat.{◌-◌}
+use mathlib.Core.Path.{sym}
+use native.Mathlib.Omega.{arith}
+use lib.Seq.{take_all}
+use borrow.Author.Rules.{rules}
+use Rattle.digest.proofs.from.Goals as goal
+
+pub returns-then-s-at : goal.returns-then-s-at
+returns-then-s-at c = sym (drop_of_length-le c.args.s.now c.if-s-at.true)
+
+pub returns : goal.returns
+returns c = let a = c.args in
+    take_all (length a.s.now - a.at) (drop a.at a.s.now) (rw (length-drop a.at a.s.now) (omega arith))

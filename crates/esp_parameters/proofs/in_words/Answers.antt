@@ -1,0 +1,9 @@
+use mathlib.Core.Path.{refl}
+use Rattle.esp_parameters.specs.Parameters.{in_words}
+use native.Mathlib.Numerals.{add-one}
+use borrow.Author.Rules.{rules}
+use Rattle.esp_parameters.proofs.in_words.Goals as goal
+
+pub returns : goal.returns
+unfolding in_words
+returns c = rw (c.up_to_end.ensures, ← (add-one c.args.address)) refl
