@@ -1,0 +1,6 @@
+use mathlib.Core.Path.{refl}
+use borrow.Author.Rules.{rules}
+use Rattle.loader_answers.proofs.status_bytes.Goals as goal
+
+pub returns : goal.returns
+returns c = rw c.status_of.ensures refl
