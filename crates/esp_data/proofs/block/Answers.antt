@@ -18,8 +18,8 @@ returns-then-missing-eq0 c = let at_less = c in
     let a = at_less.args in
     framed_as _ _ _ _ _ (ap (data_packet a.block a.k) (none_missing a.block a.part.now (sym at_less.saturating_sub-missing.ensures ∙ omega arith))) c.data_parts.ensures
 
-pub slice-aggregate-data-parts-2 : goal.slice-aggregate-data-parts-2
-slice-aggregate-data-parts-2 c = padding-length _ _ (omega (arith, c.saturating_sub-missing.ensures))
+pub slice_bounds-data_parts-end-2 : goal.slice_bounds-data_parts-end-2
+slice_bounds-data_parts-end-2 c = padding-length _ _ (omega (arith, c.saturating_sub-missing.ensures))
 
 pub data_parts-requires-2 : goal.data_parts-requires-2
 data_parts-requires-2 c = let a = c.args in

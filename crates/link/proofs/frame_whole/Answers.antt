@@ -10,29 +10,29 @@ use Rattle.link_effects.specs.Whole.{baud_frame, open_frame}
 use Rattle.link.proofs.Hearing.{whole-start, whole_baud, whole_open}
 use Rattle.link.proofs.frame_whole.Goals as goal
 
-frame-length : (c : tie.Start) → length c.args.t1.frame ≡ 65
-frame-length c = search rules
-
 pub returns-in-Start : goal.returns-in-Start
-returns-in-Start c = let start = c in
+returns-in-Start c = let frame_length : length c.args.link.frame ≡ 65 = search rules in
+    let start = c in
     c.stay.ensures ∙ ap quiet c.renew-next.ensures
-    ∙ sym (whole-start start.args.t1 start.args.tick (frame-length start) start.requires c.in-Start.is)
+    ∙ sym (whole-start start.args.link start.args.tick frame_length start.requires c.in-Start.is)
 
 pub returns-in-Baud : goal.returns-in-Baud
-returns-in-Baud c = let phase = c in
+returns-in-Baud c = let frame_length : length c.args.link.frame ≡ 65 = search rules in
+    let phase = c in
     let next = phase in
     let start = next in
-    let l = start.args.t1 in
+    let l = start.args.link in
     c.baud_frame.ensures
     ∙ (ap (λ (r : Link). baud_frame r l.kind c.word_at-rate.result start.args.tick) next.renew-next.ensures
     ∙ (ap (λ (rate : ℕ). baud_frame (renewed l start.args.tick) l.kind rate start.args.tick) c.word_at-rate.ensures
-    ∙ sym (whole_baud l start.args.tick (frame-length start) start.requires phase.in-Baud.is)))
+    ∙ sym (whole_baud l start.args.tick frame_length start.requires phase.in-Baud.is)))
 
 pub returns-in-Open : goal.returns-in-Open
-returns-in-Open c = let phase = c in
+returns-in-Open c = let frame_length : length c.args.link.frame ≡ 65 = search rules in
+    let phase = c in
     let next = phase in
     let start = next in
-    let l = start.args.t1 in
+    let l = start.args.link in
     c.open_frame.ensures
     ∙ (ap (λ (r : Link). open_frame r l.kind (get_or l.frame 0 0) (drop 1 l.frame)) next.renew-next.ensures
-    ∙ sym (whole_open l start.args.tick (frame-length start) start.requires phase.in-Open.is))
+    ∙ sym (whole_open l start.args.tick frame_length start.requires phase.in-Open.is))

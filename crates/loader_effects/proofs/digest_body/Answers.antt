@@ -1,0 +1,6 @@
+use mathlib.Core.Path.{refl}
+use borrow.Author.Rules.{rules}
+use Rattle.loader_effects.proofs.digest_body.Goals as goal
+
+pub returns : goal.returns
+returns c = rw (c.md5-digest.ensures, c.word_at-size.ensures, c.word_at-address.ensures) refl

@@ -1,0 +1,6 @@
+use mathlib.Core.Path.{refl}
+use borrow.Author.Rules.{rules}
+use Rattle.loader_effects.proofs.leaving.Goals as goal
+
+pub returns : goal.returns
+returns c = rw c.plain.ensures refl

@@ -1,0 +1,6 @@
+use mathlib.Core.Path.{refl}
+use borrow.Author.Rules.{rules}
+use Rattle.loader_state.proofs.new.Goals as goal
+
+pub returns : goal.returns
+returns c = rw c.new.ensures refl
