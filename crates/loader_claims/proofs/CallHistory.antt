@@ -22,10 +22,10 @@ use Rattle.loader_claims.proofs.Passing.{closings}
 use Rattle.loader_claims.proofs.RunLine.{FollowsRuns, law_first, runs_follow}
 use Rattle.loader_claims.proofs.Line.{single, single_closings, single_line}
 
-closings-length : (c : Core) (ss : List (List ℕ)) → length (closings c (map closed_as ss)) ≡ length (map classify ss)
+closings-length : (ss : List (List ℕ)) (c : Core) → length (closings c (map closed_as ss)) ≡ length (map classify ss)
 unfolding closings
-closings-length c [] = refl
-closings-length c (s ∷ ss) = ap suc (closings-length _ ss)
+closings-length [] c = refl
+closings-length (s ∷ ss) c = ap suc (closings-length ss _)
 
 closings-at : (c : Core) (ss : List (List ℕ)) (i : ℕ) → i < length (map classify ss)
     → closing_at (closings c (map closed_as ss)) i ≡ closing_as (stored (get_or ss i [])) (handled_at (history c (map classify ss)) i)
@@ -45,7 +45,7 @@ unfolding todo packets stored_at
 runs_are_history buffer flash words cs =
     let c = core_at (start buffer flash words) in
     let ss = stretches (line_taken (start buffer flash words) cs) in
-    rw (from_start buffer flash words cs).closes (record { one_for_one = closings-length c ss; each = λ i h. closings-at c ss i h })
+    rw (from_start buffer flash words cs).closes (record { one_for_one = closings-length ss c; each = λ i h. closings-at c ss i h })
 
 pub calls_are_history : CallsAreHistory
 calls_are_history buffer flash words cs =

@@ -1,0 +1,6 @@
+use Rattle.loader.proofs.Calls.{fed-one}
+use borrow.Author.Rules.{rules}
+use Rattle.loader.proofs.feed.Goals as goal
+
+pub returns : goal.returns
+returns c = fed-one _ _ _ _ _ _ _ _ _ _ _ c.feed_run-fed.ensures
