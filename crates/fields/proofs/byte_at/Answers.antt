@@ -1,7 +1,6 @@
 -- Past the end there is nothing to read, and `get_or` gives 0.
 use mathlib.Core.Path.{sym}
 use native.Mathlib.Omega.{arith}
-use borrow.Author.Rules.{rules}
 use lib.ListN.{get_or-eq_default}
 use Rattle.fields.proofs.byte_at.Goals as goal
 

@@ -1,6 +1,5 @@
 -- Each byte is the remainder by 256 of the word shifted.
 use mathlib.Core.Path.{refl}
-use borrow.Author.Rules.{rules}
 use Rattle.fields.proofs.bytes_of.Goals as goal
 
 pub returns : goal.returns

@@ -1,5 +1,4 @@
 use mathlib.Core.Path.{refl}
-use borrow.Author.Rules.{rules}
 use Rattle.fields.specs.Checksum.{checksum}
 use Rattle.fields.proofs.checksum_from.Goals as goal
 

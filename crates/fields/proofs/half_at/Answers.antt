@@ -1,6 +1,5 @@
 -- Where the place is past the end the number is 0; elsewhere its two bytes are summed.
 use mathlib.Core.Path.{refl}
-use borrow.Author.Rules.{rules}
 use Rattle.fields.specs.Words.{half}
 use Rattle.fields.proofs.Words.{half-past}
 use Rattle.fields.proofs.half_at.Goals as goal

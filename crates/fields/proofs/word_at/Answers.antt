@@ -1,6 +1,5 @@
 -- Where the place is past the end the word is 0; elsewhere its four bytes are summed.
 use mathlib.Core.Path.{refl}
-use borrow.Author.Rules.{rules}
 use Rattle.fields.specs.Words.{word}
 use Rattle.fields.proofs.Words.{word-past}
 use Rattle.fields.proofs.word_at.Goals as goal

@@ -1,9 +1,4 @@
-use Prim.Native.Nat.{◌-◌}
-use mathlib.Core.Path.{◌≡◌, refl}
 use native.Mathlib.Omega.{arith}
-use borrow.Author.Rules.{rules}
-use lib.ListN.{length, drop}
-use Rattle.fields.specs.Checksum.{xored}
 use Rattle.fields.proofs.Checksum.{xored-more, xored-end}
 use Rattle.fields.proofs.xor_from.Goals as goal
 

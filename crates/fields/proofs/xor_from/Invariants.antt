@@ -1,11 +1,8 @@
 -- The loop's invariant: what is XORed so far, and the bytes from `i` on, give the whole.
 use Prim.Native.Nat.{◌-◌}
-use mathlib.Core.Path.{◌≡◌, refl}
-use native.Mathlib.Omega.{arith}
-use borrow.Author.Rules.{rules}
+use mathlib.Core.Path.{◌≡◌}
 use lib.ListN.{length, drop}
 use Rattle.fields.specs.Checksum.{xored}
-use Rattle.fields.proofs.Checksum.{xored-more, xored-end}
 use Rattle.fields.proofs.xor_from.Given as goal
 
 abbrev pub invariant-loop-i : goal.invariant-loop-i

@@ -1,9 +1,4 @@
-use Prim.Native.Nat.{◌-◌}
-use mathlib.Core.Path.{◌≡◌, refl}
 use native.Mathlib.Omega.{arith}
-use borrow.Author.Rules.{rules}
-use lib.ListN.{length, drop}
-use Rattle.lists.specs.Bytes.{all_are}
 use Rattle.lists.proofs.Lists.{all_more, all_stop, all_end}
 use Rattle.lists.proofs.all_from.Goals as goal
 

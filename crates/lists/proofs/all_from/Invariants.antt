@@ -1,11 +1,8 @@
 -- The loop's invariant: the bytes from `i` on decide for all from the start.
 use Prim.Native.Nat.{◌-◌}
-use mathlib.Core.Path.{◌≡◌, refl}
-use native.Mathlib.Omega.{arith}
-use borrow.Author.Rules.{rules}
+use mathlib.Core.Path.{◌≡◌}
 use lib.ListN.{length, drop}
 use Rattle.lists.specs.Bytes.{all_are}
-use Rattle.lists.proofs.Lists.{all_more, all_stop, all_end}
 use Rattle.lists.proofs.all_from.Given as goal
 
 abbrev pub invariant-loop-i : goal.invariant-loop-i

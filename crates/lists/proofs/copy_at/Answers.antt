@@ -1,6 +1,5 @@
 use mathlib.Core.Path.{sym, ◌∙◌}
 use native.Mathlib.Omega.{arith}
-use borrow.Author.Rules.{rules}
 use Rattle.lists.proofs.Fits.{lay-fits, lay_unfit}
 use Rattle.lists.proofs.copy_at.Goals as goal
 

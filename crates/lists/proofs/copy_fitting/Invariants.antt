@@ -1,12 +1,8 @@
 -- The loop's invariant: the first `i` bytes are laid.
 use Prim.Native.Nat.{◌-◌, ◌≤◌}
-use mathlib.Core.Path.{◌≡◌, refl, sym}
-use native.Mathlib.Omega.{arith}
-use borrow.Author.Rules.{rules}
-use lib.ListN.{length, take, length-set}
-use lib.Seq.{take_all}
+use mathlib.Core.Path.{◌≡◌}
+use lib.ListN.{length, take}
 use Rattle.lists.specs.Lay.{lay}
-use Rattle.lists.proofs.Laws.{lay-nil, lay-next}
 use Rattle.lists.proofs.copy_fitting.Given as goal
 
 abbrev pub invariant-loop-i : goal.invariant-loop-i

@@ -1,6 +1,5 @@
 use mathlib.Core.Path.{sym, ◌∙◌}
 use native.Mathlib.Omega.{arith}
-use borrow.Author.Rules.{rules}
 use Rattle.lists.proofs.Fits.{fill-fits, fill_unfit, fill_none}
 use Rattle.lists.proofs.fill.Goals as goal
 

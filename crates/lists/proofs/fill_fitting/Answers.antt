@@ -1,9 +1,7 @@
-use Prim.Native.Nat.{◌-◌, ◌≤◌}
+use Prim.Native.Nat.{◌-◌}
 use mathlib.Core.Path.{◌≡◌, refl, sym}
 use native.Mathlib.Omega.{arith}
-use borrow.Author.Rules.{rules}
-use lib.ListN.{length, replicate, length-set}
-use Rattle.lists.specs.Lay.{lay}
+use lib.ListN.{length-set}
 use Rattle.lists.proofs.Laws.{lay-nil, lay-fill}
 use Rattle.lists.proofs.fill_fitting.Goals as goal
 

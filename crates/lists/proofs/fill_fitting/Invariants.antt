@@ -1,11 +1,8 @@
 -- The loop's invariant: the places below `i` are filled.
 use Prim.Native.Nat.{◌-◌, ◌≤◌}
-use mathlib.Core.Path.{◌≡◌, refl, sym}
-use native.Mathlib.Omega.{arith}
-use borrow.Author.Rules.{rules}
-use lib.ListN.{length, replicate, length-set}
+use mathlib.Core.Path.{◌≡◌}
+use lib.ListN.{length, replicate}
 use Rattle.lists.specs.Lay.{lay}
-use Rattle.lists.proofs.Laws.{lay-nil, lay-fill}
 use Rattle.lists.proofs.fill_fitting.Given as goal
 
 abbrev pub invariant-loop-i : goal.invariant-loop-i

@@ -1,9 +1,5 @@
-use Prim.Native.Nat.{◌-◌, ◌≤◌}
-use mathlib.Core.Path.{◌≡◌, refl}
+use mathlib.Core.Path.{refl}
 use native.Mathlib.Omega.{arith}
-use borrow.Author.Rules.{rules}
-use lib.ListN.{length, drop}
-use Rattle.lists.specs.Bytes.{same_bytes}
 use Rattle.lists.proofs.Lists.{same_lengths, same_more, same_stop, same_end}
 use Rattle.lists.proofs.same.Goals as goal
 

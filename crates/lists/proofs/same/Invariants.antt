@@ -1,11 +1,8 @@
 -- The loop's invariant: what is left of both decides.
 use Prim.Native.Nat.{◌-◌, ◌≤◌}
-use mathlib.Core.Path.{◌≡◌, refl}
-use native.Mathlib.Omega.{arith}
-use borrow.Author.Rules.{rules}
+use mathlib.Core.Path.{◌≡◌}
 use lib.ListN.{length, drop}
 use Rattle.lists.specs.Bytes.{same_bytes}
-use Rattle.lists.proofs.Lists.{same_lengths, same_more, same_stop, same_end}
 use Rattle.lists.proofs.same.Given as goal
 
 abbrev pub invariant-loop-i : goal.invariant-loop-i

@@ -1,13 +1,8 @@
 -- The loop's invariant: `n` is the escaped length of the bytes passed.
-use Prim.Native.Nat.{ℕ, ◌*◌, ◌-◌, ◌≤◌}
-use mathlib.Core.Path.{◌≡◌, refl, ap, ◌∙◌}
-use mathlib.Core.List.{List}
-use native.Mathlib.Omega.{arith}
-use borrow.Author.Rules.{rules}
-use lib.ListN.{length, take, get_or}
-use lib.Seq.{take_all}
+use Prim.Native.Nat.{◌*◌, ◌-◌, ◌≤◌}
+use mathlib.Core.Path.{◌≡◌}
+use lib.ListN.{length, take}
 use Rattle.slip_framing.specs.Frame.{escaped}
-use Rattle.slip_framing.proofs.Escapes.{escaped-next, escape-most}
 use Rattle.slip_framing.proofs.escaped_len.Given as goal
 
 abbrev pub invariant-loop-i : goal.invariant-loop-i

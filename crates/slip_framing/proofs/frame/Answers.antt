@@ -1,6 +1,5 @@
 -- A packet is its own first part, with nothing in the others.
 use mathlib.Core.List.{append-nil}
-use borrow.Author.Rules.{rules}
 use Rattle.slip_framing.proofs.frame.Goals as goal
 
 pub returns : goal.returns

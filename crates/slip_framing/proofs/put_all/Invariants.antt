@@ -1,15 +1,9 @@
 -- The loop's invariant: from `at` on stand the escaped bytes passed, and `to` is the place after them.
-use Prim.Native.Nat.{ℕ, ◌+◌, ◌-◌, ◌≤◌, ◌<◌}
-use mathlib.Core.Path.{◌≡◌, refl, sym, ◌∙◌}
-use mathlib.Core.List.{List}
-use native.Mathlib.Omega.{arith}
-use borrow.Author.Rules.{rules}
+use Prim.Native.Nat.{◌+◌, ◌-◌, ◌≤◌}
+use mathlib.Core.Path.{◌≡◌}
 use lib.ListN.{length, take}
-use lib.Seq.{take_all}
 use Rattle.lists.specs.Lay.{lay}
-use Rattle.lists.proofs.Laws.{lay-nil}
 use Rattle.slip_framing.specs.Frame.{escaped}
-use Rattle.slip_framing.proofs.Escapes.{escaped-within, escaped-next, written_next}
 use Rattle.slip_framing.proofs.put_all.Given as goal
 
 abbrev pub invariant-loop-i : goal.invariant-loop-i

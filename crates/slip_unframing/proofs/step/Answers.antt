@@ -1,5 +1,4 @@
 -- Each arm knows its phase, and the phase picks the step.
-use borrow.Author.Rules.{rules}
 use borrow.Author.Tests.{eq-eqb, ne_eqb}
 use Rattle.slip_framing.specs.Frame.{end_byte}
 use Rattle.slip_unframing.proofs.Steps.{step_in, says_open}

@@ -3,7 +3,6 @@ use mathlib.Core.Path.{refl}
 use borrow.Author.Tests.{eq-eqb, ne_eqb}
 use Rattle.slip_framing.specs.Frame.{end_byte}
 use Rattle.slip_unframing.proofs.Steps.{says_open, says-closed}
-use borrow.Author.Rules.{rules}
 use Rattle.slip_unframing.proofs.step_broken.Goals as goal
 
 pub returns-then-byte-ne-END : goal.returns-then-byte-ne-END

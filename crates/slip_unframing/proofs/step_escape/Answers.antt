@@ -1,5 +1,4 @@
 use mathlib.Core.Path.{refl}
-use borrow.Author.Rules.{rules}
 use borrow.Author.Tests.{eq-eqb, ne_eqb}
 use Rattle.slip_framing.specs.Frame.{end_byte, esc_end_byte, esc_esc_byte}
 use Rattle.slip_unframing.specs.Reasons.{broken}

@@ -1,7 +1,6 @@
 use borrow.Author.Tests.{eq-eqb, ne_eqb}
 use Rattle.slip_framing.specs.Frame.{end_byte, esc_byte}
 use Rattle.slip_unframing.proofs.Steps.{says_open, says-whole, says_too_long}
-use borrow.Author.Rules.{rules}
 use Rattle.slip_unframing.proofs.step_inside.Goals as goal
 
 pub returns-then-byte-eq-ESC : goal.returns-then-byte-eq-ESC

@@ -1,4 +1,3 @@
-use borrow.Author.Rules.{rules}
 use native.Mathlib.Omega.{arith}
 use Rattle.slip_unframing.proofs.Steps.{stores, stores_no_space, stores_no_more}
 use Rattle.slip_unframing.proofs.store_byte.Goals as goal
