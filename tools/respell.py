@@ -26,6 +26,15 @@ OWN = {
     "core-over": "core_over_lem", "tells-over": "tells_over_lem", "answer-buffer": "answer_buffer",
     "by_bytes": "fed_by_bytes", "by_runs": "fed_by_runs",
 }
+# the kinds of a command and what tells them, declared several to a line; they have the names of the grammar's tests, which one file renames
+KINDS = ("loader_errors", "loader_effects", "loader_history", "loader_claims")
+OF_KINDS = {
+    "flash-begin": "flash_begin", "memory-begin": "memory_begin", "flash-end": "flash_end", "memory-end": "memory_end",
+    "write-reg": "write_reg", "spi-attach": "spi_attach", "flash-digest": "flash_digest",
+    "is-flash-begin": "is_flash_begin", "is-flash-data": "is_flash_data", "is-flash-end": "is_flash_end", "is-sync": "is_sync",
+    "is-write-reg": "is_write_reg", "is-read-reg": "is_read_reg", "is-flash-digest": "is_flash_digest", "is-unknown": "is_unknown",
+}
+BESIDE = {"flashBegin": "good_flash_begin", "memoryBegin": "good_memory_begin", "flashEnd": "good_flash_end"}
 # the library's names of today for the tests that definitions and clauses write
 TESTS = {"eqb": "nat_eq", "leb": "nat_le", "ltb": "nat_lt"}
 KNOWN = set("""length take drop set append get_or replicate reverse map nil cons zero one suc add sub mul div mod min max cond and or not
@@ -137,6 +146,27 @@ def turned_edit(text, names):
     return "\n".join(out)
 
 
+def names_in(path, names):
+    """The names that a file respells."""
+    if "/specs/" in path or path.endswith(".rt"):
+        names = names | TESTS
+    if path.split("/")[1] in KINDS:
+        names = names | OF_KINDS
+    if path.endswith("loader_history/proofs/Sessions.antt"):
+        names = names | BESIDE
+    if "/listing_lines/" in path:
+        names = names | {"used-then": "used_then"}
+    return names
+
+
+def imported(path, text):
+    """The grammar's tests, imported under other names where the kinds of a command stand beside them."""
+    if path.endswith("loader_history/proofs/Sessions.antt"):
+        for old, new in (("flash_begin", "good_flash_begin"), ("memory_begin", "good_memory_begin"), ("flash_end", "good_flash_end")):
+            text = re.sub(r"(?m)^(use Rattle\.grammar\.specs\.Grammar\.\{.*)\b" + new + r"\b", r"\1" + old + " as " + new, text)
+    return text
+
+
 def main():
     where = declared()
     in_specs = {n for n, ps in where.items() if any("/specs/" in p for p in ps)}
@@ -198,7 +228,7 @@ def main():
         turn = {".antt": turned_antt, ".rt": turned_rt, ".edit": turned_edit}.get(os.path.splitext(p)[1])
         if turn:
             old = open(p, encoding="utf-8").read()
-            new = turn(old, names | TESTS if "/specs/" in p or p.endswith(".rt") else names)
+            new = imported(p, turn(old, names_in(p, names)))
             if new != old:
                 open(p, "w", encoding="utf-8").write(new)
 

@@ -26,8 +26,8 @@ abbrev pub has_space : ℕ → ℕ → Bool
 has_space n used = nat_le (used + longest_line) n
 
 -- a text laid behind the used bytes of a buffer, and how many are used then
-pub record Appends (text buffer : List ℕ) (used used-then : ℕ) (after : List ℕ) : Type 0 where
-  pub tells : used-then ≡ used + length text
+pub record Appends (text buffer : List ℕ) (used used_then : ℕ) (after : List ℕ) : Type 0 where
+  pub tells : used_then ≡ used + length text
   pub leaves : after ≡ lay buffer used text
 
 -- what `line` says: that the buffer has no space for every line, or how many of its bytes are used

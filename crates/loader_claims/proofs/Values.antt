@@ -13,7 +13,7 @@ use Rattle.slip_packets.specs.Packets.{Packet, dropped, read}
 use Rattle.esp_commands.specs.Numbers.{read_reg_command, spi_flash_md5_command}
 use Rattle.esp_commands.specs.Header.{command}
 use Rattle.loader_errors.specs.Errors.{Kind, kind}
-use Rattle.loader_errors.proofs.Checks.{Is, is-flash_begin, is-flash_data, is-flash_end, is_memory_begin, is_memory_end, is_memory_data, is-sync, is-write_reg, is-read_reg, is_spi_attach, is-flash-digest, is-unknown, is}
+use Rattle.loader_errors.proofs.Checks.{Is, is_flash_begin, is_flash_data, is_flash_end, is_memory_begin, is_memory_end, is_memory_data, is_sync, is_write_reg, is_read_reg, is_spi_attach, is_flash_digest, is_unknown, is}
 use Rattle.loader_effects.specs.Core.{Core}
 use Rattle.loader_effects.specs.Effects.{effect}
 use Rattle.loader_effects.specs.Handle.{Reply, nothing, replied, carried_out, failed, handle}
@@ -30,18 +30,18 @@ module _ (c : Core) (p : List ℕ) where
   by_kind : (n : ℕ) (k : Kind) → Is n k
       → (eqb n read_reg_command ≡ false → (effect k c p).value ≡ 0) × (eqb n spi_flash_md5_command ≡ false → body_bytes (effect k c p).body ≡ [])
   unfolding effect
-  by_kind n _ (is-flash_begin _) = ((λ _. refl), (λ _. refl))
-  by_kind n _ (is-flash_data _) = ((λ _. refl), (λ _. refl))
-  by_kind n _ (is-flash_end _) = ((λ _. refl), (λ _. refl))
+  by_kind n _ (is_flash_begin _) = ((λ _. refl), (λ _. refl))
+  by_kind n _ (is_flash_data _) = ((λ _. refl), (λ _. refl))
+  by_kind n _ (is_flash_end _) = ((λ _. refl), (λ _. refl))
   by_kind n _ (is_memory_begin _) = ((λ _. refl), (λ _. refl))
   by_kind n _ is_memory_end = ((λ _. refl), (λ _. refl))
   by_kind n _ is_memory_data = ((λ _. refl), (λ _. refl))
-  by_kind n _ is-sync = ((λ _. refl), (λ _. refl))
-  by_kind n _ is-write_reg = ((λ _. refl), (λ _. refl))
-  by_kind n _ (is-read_reg e) = ((λ h. absurd_test (sym h ∙ eq-eqb n read_reg_command e)), (λ _. refl))
+  by_kind n _ is_sync = ((λ _. refl), (λ _. refl))
+  by_kind n _ is_write_reg = ((λ _. refl), (λ _. refl))
+  by_kind n _ (is_read_reg e) = ((λ h. absurd_test (sym h ∙ eq-eqb n read_reg_command e)), (λ _. refl))
   by_kind n _ is_spi_attach = ((λ _. refl), (λ _. refl))
-  by_kind n _ (is-flash-digest e) = ((λ _. refl), (λ h. absurd_test (sym h ∙ eq-eqb n spi_flash_md5_command e)))
-  by_kind n _ is-unknown = ((λ _. refl), (λ _. refl))
+  by_kind n _ (is_flash_digest e) = ((λ _. refl), (λ h. absurd_test (sym h ∙ eq-eqb n spi_flash_md5_command e)))
+  by_kind n _ is_unknown = ((λ _. refl), (λ _. refl))
 
   digest_body : (n : ℕ) → eqb n spi_flash_md5_command ≡ true → length (body_bytes (effect (kind n) c p).body) ≡ 16
   unfolding kind effect

@@ -8,7 +8,7 @@ use Rattle.digest.proofs.Length.{md5-length}
 use Rattle.loader_answers.specs.Answer.{body_bytes}
 use Rattle.slip_packets.specs.Packets.{Packet, dropped, read}
 use Rattle.esp_commands.specs.Header.{command}
-use Rattle.loader_errors.specs.Errors.{Kind, kind, good_flash_begin, flash_data, flash-end, good_memory_begin, memory-end, memory_data, sync, write-reg, read_reg, spi-attach, flash-digest, unknown}
+use Rattle.loader_errors.specs.Errors.{Kind, kind, flash_begin, flash_data, flash_end, memory_begin, memory_end, memory_data, sync, write_reg, read_reg, spi_attach, flash_digest, unknown}
 use Rattle.loader_effects.specs.Core.{Core}
 use Rattle.loader_effects.specs.Effects.{effect}
 use Rattle.loader_effects.specs.Handle.{Reply, nothing, replied, carried_out, failed, handle}
@@ -23,17 +23,17 @@ digest-most m = omega (arith, md5-length m)
 
 by_kind : (k : Kind) (c : Core) (p : List ℕ) → length (body_bytes (effect k c p).body) ≤ 16
 unfolding effect
-by_kind good_flash_begin c p = omega arith
+by_kind flash_begin c p = omega arith
 by_kind flash_data c p = omega arith
-by_kind flash-end c p = omega arith
-by_kind good_memory_begin c p = omega arith
-by_kind memory-end c p = omega arith
+by_kind flash_end c p = omega arith
+by_kind memory_begin c p = omega arith
+by_kind memory_end c p = omega arith
 by_kind memory_data c p = omega arith
 by_kind sync c p = omega arith
-by_kind write-reg c p = omega arith
+by_kind write_reg c p = omega arith
 by_kind read_reg c p = omega arith
-by_kind spi-attach c p = omega arith
-by_kind flash-digest c p = digest-most _
+by_kind spi_attach c p = omega arith
+by_kind flash_digest c p = digest-most _
 by_kind unknown c p = omega arith
 
 pub short : (c : Core) (p : Packet) → Short (handle c p).reply

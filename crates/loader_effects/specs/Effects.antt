@@ -9,7 +9,7 @@ use Rattle.esp_begin.specs.Begin.{begin_of}
 use Rattle.esp_commands.specs.Block.{payload}
 use Rattle.loader_registers.specs.Registers.{register_read, register_written}
 use Rattle.loader_sessions.specs.Session.{announced, accepted, advanced}
-use Rattle.loader_errors.specs.Errors.{Kind, good_flash_begin, flash_data, flash-end, good_memory_begin, memory-end, memory_data, sync, write-reg, read_reg, spi-attach, flash-digest, unknown}
+use Rattle.loader_errors.specs.Errors.{Kind, flash_begin, flash_data, flash_end, memory_begin, memory_end, memory_data, sync, write_reg, read_reg, spi_attach, flash_digest, unknown}
 use Rattle.loader_sessions.specs.declared.Session.TheVariants.{Closed, Flash, Memory}
 use Rattle.loader_blocks.specs.Flash.{flash_block}
 use Rattle.loader_blocks.specs.Memory.{words_block}
@@ -41,25 +41,25 @@ accepts c = with_session c (advanced c.session)
 
 unfoldable pub effect : Kind → Core → List ℕ → Effect
 -- "It opens a session with no blocks accepted and drops any open one. It writes no flash."
-effect good_flash_begin c p = leaves (with_session c (Flash (begin_of p) 0))
-effect good_memory_begin c p = leaves (with_session c (Memory (begin_of p) 0))
+effect flash_begin c p = leaves (with_session c (Flash (begin_of p) 0))
+effect memory_begin c p = leaves (with_session c (Memory (begin_of p) 0))
 -- a good block is accepted and written
 effect flash_data c p =
     leaves (with_flash (accepts c) (flash_block (announced c.session) (accepted c.session) (payload p) c.flash))
 effect memory_data c p =
     leaves (with_words (accepts c) (words_block (announced c.session) (accepted c.session) (payload p) c.words))
 -- "one word, 0 reboot or 1 stay, told to the caller. Closes the session."
-effect flash-end c p = tells (with_session c Closed) (end_word (word p first_word))
+effect flash_end c p = tells (with_session c Closed) (end_word (word p first_word))
 -- "0 jumps, 1 stays": where it stays, the entry is not told
-effect memory-end c p =
+effect memory_end c p =
     tells (with_session c Closed)
     (cond (nat_eq (word p first_word) 0) (end_jump (word p first_word) (word p second_word)) (end_word (word p first_word)))
 effect sync c p = leaves c
 -- the word under the address is merged with the value under the mask, or read
-effect write-reg c p = leaves (with_words c (register_written p c.words))
+effect write_reg c p = leaves (with_words c (register_written p c.words))
 effect read_reg c p = reads c (register_read p c.words)
 -- "Accepted words are kept in the record, 0 when fresh."
-effect spi-attach c p = leaves (with_attach c (word p first_word))
+effect spi_attach c p = leaves (with_attach c (word p first_word))
 -- "Flash is read where it stands, any open session included and unchanged": the digest of size bytes from the address on
-effect flash-digest c p = digests c (md5_of (take (word p second_word) (drop (word p first_word) c.flash)))
+effect flash_digest c p = digests c (md5_of (take (word p second_word) (drop (word p first_word) c.flash)))
 effect unknown c p = leaves c

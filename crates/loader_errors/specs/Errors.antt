@@ -16,20 +16,20 @@ use Rattle.loader_sessions.specs.declared.Session.{Session}
 
 -- the commands of the list, by their numbers
 pub data Kind : Type 0 where
-  good_flash_begin flash_data flash-end good_memory_begin memory-end memory_data sync write-reg read_reg spi-attach flash-digest unknown : Kind
+  flash_begin flash_data flash_end memory_begin memory_end memory_data sync write_reg read_reg spi_attach flash_digest unknown : Kind
 
 unfoldable pub kind : ℕ → Kind
 kind c =
-    cond (nat_eq c flash_begin_command) good_flash_begin
+    cond (nat_eq c flash_begin_command) flash_begin
     (cond (nat_eq c flash_data_command) flash_data
-    (cond (nat_eq c flash_end_command) flash-end
-    (cond (nat_eq c mem_begin_command) good_memory_begin
-    (cond (nat_eq c mem_end_command) memory-end
+    (cond (nat_eq c flash_end_command) flash_end
+    (cond (nat_eq c mem_begin_command) memory_begin
+    (cond (nat_eq c mem_end_command) memory_end
     (cond (nat_eq c mem_data_command) memory_data
     (cond (nat_eq c sync_command) sync
-    (cond (nat_eq c write_reg_command) write-reg
+    (cond (nat_eq c write_reg_command) write_reg
     (cond (nat_eq c read_reg_command) read_reg
-    (cond (nat_eq c spi_attach_command) spi-attach (cond (nat_eq c spi_flash_md5_command) flash-digest unknown))))))))))
+    (cond (nat_eq c spi_attach_command) spi_attach (cond (nat_eq c spi_flash_md5_command) flash_digest unknown))))))))))
 
 -- a data command, where a session of its kind is open or not
 unfoldable pub data_checks : Bool → Session → List ℕ → List Check
@@ -66,17 +66,17 @@ unfoldable pub plain_checks : Bool → Bool → List Check
 plain_checks isShaped isRuled = isShaped or_else wrong_size ∷ isRuled or_else bad_parameter ∷ []
 
 unfoldable pub checks : Lengths → Session → Kind → List ℕ → List Check
-checks l s good_flash_begin p = plain_checks (shaped four_words p) (flash_rule l (begin_of p))
+checks l s flash_begin p = plain_checks (shaped four_words p) (flash_rule l (begin_of p))
 checks l s flash_data p = data_checks (flash_open s) s p
-checks l s flash-end p = end_checks (shaped 4 p) (flash_open s) (flash_end_rule p) s
-checks l s good_memory_begin p = plain_checks (shaped four_words p) (memory_rule l (begin_of p))
-checks l s memory-end p = end_checks (shaped 8 p) (memory_open s) (memory_end_rule l p) s
+checks l s flash_end p = end_checks (shaped 4 p) (flash_open s) (flash_end_rule p) s
+checks l s memory_begin p = plain_checks (shaped four_words p) (memory_rule l (begin_of p))
+checks l s memory_end p = end_checks (shaped 8 p) (memory_open s) (memory_end_rule l p) s
 checks l s memory_data p = data_checks (memory_open s) s p
 checks l s sync p = plain_checks (shaped 36 p) (sync_rule p)
-checks l s write-reg p = plain_checks (shaped four_words p) (write_rule l p)
+checks l s write_reg p = plain_checks (shaped four_words p) (write_rule l p)
 checks l s read_reg p = plain_checks (shaped 4 p) (register_rule l (word p first_word))
-checks l s spi-attach p = attach_checks (shaped 4 p) (word p first_word)
-checks l s flash-digest p = plain_checks (shaped four_words p) (digest_rule l p)
+checks l s spi_attach p = attach_checks (shaped 4 p) (word p first_word)
+checks l s flash_digest p = plain_checks (shaped four_words p) (digest_rule l p)
 checks l s unknown p = false or_else unknown_command ∷ []
 
 -- the error byte of a read packet, 0 on success

@@ -18,7 +18,7 @@ use Rattle.esp_begin.proofs.Sectors.{reaches, round_mono, round_le}
 use Rattle.esp_commands.specs.Header.{command}
 use Rattle.esp_commands.specs.Block.{payload}
 use Rattle.loader_sessions.specs.Session.{flash_open, memory_open, announced, accepted, advanced, session_good}
-use Rattle.loader_errors.specs.Errors.{Kind, kind, good_flash_begin, flash_data, flash-end, good_memory_begin, memory-end, memory_data, sync, write-reg, read_reg, spi-attach, flash-digest, unknown, plain_checks, attach_checks, checks}
+use Rattle.loader_errors.specs.Errors.{Kind, kind, flash_begin, flash_data, flash_end, memory_begin, memory_end, memory_data, sync, write_reg, read_reg, spi_attach, flash_digest, unknown, plain_checks, attach_checks, checks}
 use Rattle.loader_sessions.specs.declared.Session.{Session}
 use Rattle.loader_sessions.specs.declared.Session.TheVariants.{Closed, Flash, Memory}
 use Rattle.loader_errors.proofs.Checks.{data_passed}
@@ -76,19 +76,19 @@ module _ (c : Core) (p : List ℕ) (good : session_good (lengths c) c.session �
 
   effect_keeps : (k : Kind) → Passed (checks (lengths c) c.session k p) → Keeps c (effect k c p).core
   unfolding effect checks plain_checks attach_checks attach_good session_good register_written
-  effect_keeps good_flash_begin t =
+  effect_keeps flash_begin t =
       record { same_lengths = refl; session = rw t.1.0 (le-leb 0 (begin_of p).count (omega arith)); attach = λ a. a }
   effect_keeps flash_data t = flash_data_keeps t
-  effect_keeps flash-end t = record { same_lengths = refl; session = refl; attach = λ a. a }
-  effect_keeps good_memory_begin t =
+  effect_keeps flash_end t = record { same_lengths = refl; session = refl; attach = λ a. a }
+  effect_keeps memory_begin t =
       record { same_lengths = refl; session = rw t.1.0 (le-leb 0 (begin_of p).count (omega arith)); attach = λ a. a }
-  effect_keeps memory-end t = record { same_lengths = refl; session = refl; attach = λ a. a }
+  effect_keeps memory_end t = record { same_lengths = refl; session = refl; attach = λ a. a }
   effect_keeps memory_data t = memory_data_keeps t
   effect_keeps sync t = record { same_lengths = refl; session = good; attach = λ a. a }
-  effect_keeps write-reg t = record { same_lengths = simp length-set; session = simp length-set good; attach = λ a. a }
+  effect_keeps write_reg t = record { same_lengths = simp length-set; session = simp length-set good; attach = λ a. a }
   effect_keeps read_reg t = record { same_lengths = refl; session = good; attach = λ a. a }
-  effect_keeps spi-attach t = record { same_lengths = refl; session = good; attach = λ _. rw (t.1.0, t.1.1.0) }
-  effect_keeps flash-digest t = record { same_lengths = refl; session = good; attach = λ a. a }
+  effect_keeps spi_attach t = record { same_lengths = refl; session = good; attach = λ _. rw (t.1.0, t.1.1.0) }
+  effect_keeps flash_digest t = record { same_lengths = refl; session = good; attach = λ a. a }
   effect_keeps unknown t = record { same_lengths = refl; session = good; attach = λ a. a }
 
 pub keeps : (c : Core) (p : Packet) → session_good (lengths c) c.session ≡ true → Keeps c (handle c p).core

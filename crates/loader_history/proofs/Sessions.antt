@@ -12,16 +12,16 @@ use Rattle.esp_commands.specs.Header.{command, shaped}
 use Rattle.esp_parameters.specs.Parameters.{flash_end_rule}
 use Rattle.esp_begin.specs.declared.Begin.{Begin}
 use Rattle.loader_sessions.specs.Session.{flash_open, memory_open, announced, accepted, advanced}
-use Rattle.loader_errors.specs.Errors.{Kind, kind, good_flash_begin, flash_data, flash-end, good_memory_begin, memory-end, memory_data, sync, write-reg, read_reg, spi-attach, flash-digest, unknown, plain_checks, end_checks, checks}
+use Rattle.loader_errors.specs.Errors.{Kind, kind, flash_begin, flash_data, flash_end, memory_begin, memory_end, memory_data, sync, write_reg, read_reg, spi_attach, flash_digest, unknown, plain_checks, end_checks, checks}
 use Rattle.loader_sessions.specs.declared.Session.{Session}
 use Rattle.loader_sessions.specs.declared.Session.TheVariants.{Closed, Flash, Memory}
-use Rattle.loader_errors.proofs.Checks.{Is, is-flash_begin, is-flash_data, is-flash_end, is_memory_begin, is_memory_end, is_memory_data, is-sync, is-write_reg, is-read_reg, is_spi_attach, is-flash-digest, is-unknown, is, DataPassed, data_passed, data_passes, EndPassed, end_passed, end-passes}
+use Rattle.loader_errors.proofs.Checks.{Is, is_flash_begin, is_flash_data, is_flash_end, is_memory_begin, is_memory_end, is_memory_data, is_sync, is_write_reg, is_read_reg, is_spi_attach, is_flash_digest, is_unknown, is, DataPassed, data_passed, data_passes, EndPassed, end_passed, end-passes}
 use Rattle.loader_blocks.specs.Flash.{flash_block}
 use Rattle.loader_effects.specs.Core.{Core, lengths}
 use Rattle.loader_effects.specs.Effects.{effect}
 use Rattle.loader_effects.specs.Handle.{carried_out, failed, handle}
 use Rattle.loader_effects.proofs.Handled.{Passes, good_handled, handle_cases}
-use Rattle.grammar.specs.Grammar.{flash_begin, memory_begin, any_begin, good_block, flash_end, begins, carries}
+use Rattle.grammar.specs.Grammar.{flash_begin as good_flash_begin, memory_begin as good_memory_begin, any_begin, good_block, flash_end as good_flash_end, begins, carries}
 use Rattle.loader_history.specs.History.{end_succeeds}
 use Rattle.grammar.proofs.Goodness.{flash_begin_parts, flash_begin-whole, memory_begin_parts, memory_begin-whole, end_parts, end_whole, block_parts, block-whole}
 
@@ -33,17 +33,17 @@ success c e h =
 
 module _ (c : Core) where
   -- a good flash BEGIN opens its session and writes no flash
-  pub began : (p : Packet) → flash_begin (lengths c) p ≡ true
+  pub began : (p : Packet) → good_flash_begin (lengths c) p ≡ true
       → ((handle c p).core.session ≡ Flash (begins p) 0) × ((handle c p).core.flash ≡ c.flash)
-  unfolding flash_begin begins kind checks plain_checks carried_out effect
+  unfolding good_flash_begin begins kind checks plain_checks carried_out effect
   began (dropped w) h = absurd_test h
   began (read p) h =
       let b = flash_begin_parts (lengths c) p h in
       rw (good_handled c p (rw b.numbered (b.is_shaped, (b.is_ruled, tt)))) (rw b.numbered (refl, refl))
 
   -- a good memory BEGIN leaves no flash session
-  pub memory_began : (p : Packet) → memory_begin (lengths c) p ≡ true → flash_open (handle c p).core.session ≡ false
-  unfolding memory_begin kind checks plain_checks carried_out effect flash_open
+  pub memory_began : (p : Packet) → good_memory_begin (lengths c) p ≡ true → flash_open (handle c p).core.session ≡ false
+  unfolding good_memory_begin kind checks plain_checks carried_out effect flash_open
   memory_began (dropped w) h = absurd_test h
   memory_began (read p) h =
       let b = memory_begin_parts (lengths c) p h in
@@ -70,9 +70,9 @@ module _ (c : Core) where
       rw (good_handled c p (rw (b.numbered, e) (data_passes d))) (rw (b.numbered, e) (refl, refl))
 
   -- an END after the last block is answered with success, closes the session and writes no flash
-  pub ends : (g : Begin) (k : ℕ) (p : Packet) → c.session ≡ Flash g k → k ≡ g.count → flash_end p ≡ true
+  pub ends : (g : Begin) (k : ℕ) (p : Packet) → c.session ≡ Flash g k → k ≡ g.count → good_flash_end p ≡ true
       → (end_succeeds (handle c p).reply ≡ true) × ((handle c p).core.session ≡ Closed) × ((handle c p).core.flash ≡ c.flash)
-  unfolding flash_end kind checks flash_open announced accepted carried_out effect end_succeeds
+  unfolding good_flash_end kind checks flash_open announced accepted carried_out effect end_succeeds
   ends g k (dropped w) e m h = absurd_test h
   ends g k (read p) e m h =
       let b = end_parts p h in
@@ -86,13 +86,13 @@ module _ (c : Core) where
     pub blocks : ℕ
     pub session : c.session ≡ Flash begin blocks
     pub all : blocks ≡ begin.count
-    pub end : flash_end p ≡ true
+    pub end : good_flash_end p ≡ true
 
   ended-session : (p : List ℕ) (s : Session) → c.session ≡ s → command p ≡ flash_end_command → Passes c p → Ended (read p)
-  unfolding kind checks end_checks flash_open announced accepted flash_end
+  unfolding kind checks end_checks flash_open announced accepted good_flash_end
   ended-session p s e m t = go s e (rw (e, m) at t)
     where
-      go : (s : Session) → c.session ≡ s → Passed (checks (lengths c) s flash-end p) → Ended (read p)
+      go : (s : Session) → c.session ≡ s → Passed (checks (lengths c) s flash_end p) → Ended (read p)
       go Closed e u = absurd_test (end_passed _ _ _ Closed u).is_open
       go (Memory g k) e u = absurd_test (end_passed _ _ _ (Memory g k) u).is_open
       go (Flash g k) e u =
@@ -131,34 +131,34 @@ passed_block g k p e d =
 
 kept-kind : (c : Core) (g : Begin) (k : ℕ) (p : List ℕ) (d : Kind) → c.session ≡ Flash g k → Is (command p) d
     → any_begin (lengths c) (read p) ≡ false
-    → (k < g.count → good_block g k (read p) ≡ false) → (k ≡ g.count → flash_end (read p) ≡ false)
+    → (k < g.count → good_block g k (read p) ≡ false) → (k ≡ g.count → good_flash_end (read p) ≡ false)
     → Passed (checks (lengths c) (Flash g k) d p)
     → ((effect d c p).core.session ≡ Flash g k) × ((effect d c p).core.flash ≡ c.flash)
 unfolding any_begin checks plain_checks flash_open memory_open announced accepted effect
-kept-kind c g k p good_flash_begin s (is-flash_begin e) nb ng ne t =
-    let n = neither (flash_begin (lengths c) (read p)) (memory_begin (lengths c) (read p)) nb in
+kept-kind c g k p flash_begin s (is_flash_begin e) nb ng ne t =
+    let n = neither (good_flash_begin (lengths c) (read p)) (good_memory_begin (lengths c) (read p)) nb in
     absurd_test (sym n.0 ∙ flash_begin-whole (lengths c) p (record { numbered = e; is_shaped = t.0; is_ruled = t.1.0 }))
-kept-kind c g k p flash_data s (is-flash_data e) nb ng ne t =
+kept-kind c g k p flash_data s (is_flash_data e) nb ng ne t =
     let d = data_passed true (Flash g k) p t in
     absurd_test (sym (ng d.more) ∙ passed_block g k p e d)
-kept-kind c g k p flash-end s (is-flash_end e) nb ng ne t =
+kept-kind c g k p flash_end s (is_flash_end e) nb ng ne t =
     let d = end_passed _ true _ (Flash g k) t in
     absurd_test (sym (ne d.all) ∙ end_whole p (record { numbered = e; is_shaped = d.is_shaped; is_ruled = d.is_ruled }))
-kept-kind c g k p good_memory_begin s (is_memory_begin e) nb ng ne t =
-    let n = neither (flash_begin (lengths c) (read p)) (memory_begin (lengths c) (read p)) nb in
+kept-kind c g k p memory_begin s (is_memory_begin e) nb ng ne t =
+    let n = neither (good_flash_begin (lengths c) (read p)) (good_memory_begin (lengths c) (read p)) nb in
     absurd_test (sym n.1 ∙ memory_begin-whole (lengths c) p (record { numbered = e; is_shaped = t.0; is_ruled = t.1.0 }))
-kept-kind c g k p memory-end s is_memory_end nb ng ne t = absurd_test (end_passed _ false _ (Flash g k) t).is_open
+kept-kind c g k p memory_end s is_memory_end nb ng ne t = absurd_test (end_passed _ false _ (Flash g k) t).is_open
 kept-kind c g k p memory_data s is_memory_data nb ng ne t = absurd_test (data_passed false (Flash g k) p t).is_open
-kept-kind c g k p sync s is-sync nb ng ne t = (s, refl)
-kept-kind c g k p write-reg s is-write_reg nb ng ne t = (s, refl)
-kept-kind c g k p read_reg s (is-read_reg _) nb ng ne t = (s, refl)
-kept-kind c g k p spi-attach s is_spi_attach nb ng ne t = (s, refl)
-kept-kind c g k p flash-digest s (is-flash-digest _) nb ng ne t = (s, refl)
-kept-kind c g k p unknown s is-unknown nb ng ne t = absurd_test t.0
+kept-kind c g k p sync s is_sync nb ng ne t = (s, refl)
+kept-kind c g k p write_reg s is_write_reg nb ng ne t = (s, refl)
+kept-kind c g k p read_reg s (is_read_reg _) nb ng ne t = (s, refl)
+kept-kind c g k p spi_attach s is_spi_attach nb ng ne t = (s, refl)
+kept-kind c g k p flash_digest s (is_flash_digest _) nb ng ne t = (s, refl)
+kept-kind c g k p unknown s is_unknown nb ng ne t = absurd_test t.0
 
 -- with a flash session open, what is neither a good BEGIN, nor its next block, nor its END changes neither session nor flash
 pub kept : (c : Core) (g : Begin) (k : ℕ) (p : Packet) → c.session ≡ Flash g k → any_begin (lengths c) p ≡ false
-    → (k < g.count → good_block g k p ≡ false) → (k ≡ g.count → flash_end p ≡ false)
+    → (k < g.count → good_block g k p ≡ false) → (k ≡ g.count → good_flash_end p ≡ false)
     → ((handle c p).core.session ≡ Flash g k) × ((handle c p).core.flash ≡ c.flash)
 unfolding handle carried_out failed
 kept c g k (dropped w) e nb ng ne = (e, refl)
@@ -172,25 +172,25 @@ advanced_open (Flash g k) = refl
 advanced_open (Memory g k) = refl
 
 unopened_kind : (c : Core) (p : List ℕ) (d : Kind) → Is (command p) d → flash_open c.session ≡ false
-    → flash_begin (lengths c) (read p) ≡ false
+    → good_flash_begin (lengths c) (read p) ≡ false
     → Passed (checks (lengths c) c.session d p) → flash_open (effect d c p).core.session ≡ false
 unfolding checks plain_checks effect
-unopened_kind c p good_flash_begin (is-flash_begin e) o nb t =
+unopened_kind c p flash_begin (is_flash_begin e) o nb t =
     absurd_test (sym nb ∙ flash_begin-whole (lengths c) p (record { numbered = e; is_shaped = t.0; is_ruled = t.1.0 }))
-unopened_kind c p flash_data (is-flash_data e) o nb t = absurd_test (sym o ∙ (data_passed (flash_open c.session) c.session p t).is_open)
-unopened_kind c p flash-end (is-flash_end e) o nb t = absurd_test (sym o ∙ (end_passed _ (flash_open c.session) _ c.session t).is_open)
-unopened_kind c p good_memory_begin (is_memory_begin e) o nb t = unfold flash_open in refl
-unopened_kind c p memory-end is_memory_end o nb t = unfold flash_open in refl
+unopened_kind c p flash_data (is_flash_data e) o nb t = absurd_test (sym o ∙ (data_passed (flash_open c.session) c.session p t).is_open)
+unopened_kind c p flash_end (is_flash_end e) o nb t = absurd_test (sym o ∙ (end_passed _ (flash_open c.session) _ c.session t).is_open)
+unopened_kind c p memory_begin (is_memory_begin e) o nb t = unfold flash_open in refl
+unopened_kind c p memory_end is_memory_end o nb t = unfold flash_open in refl
 unopened_kind c p memory_data is_memory_data o nb t = advanced_open c.session ∙ o
-unopened_kind c p sync is-sync o nb t = o
-unopened_kind c p write-reg is-write_reg o nb t = o
-unopened_kind c p read_reg (is-read_reg _) o nb t = o
-unopened_kind c p spi-attach is_spi_attach o nb t = o
-unopened_kind c p flash-digest (is-flash-digest _) o nb t = o
-unopened_kind c p unknown is-unknown o nb t = o
+unopened_kind c p sync is_sync o nb t = o
+unopened_kind c p write_reg is_write_reg o nb t = o
+unopened_kind c p read_reg (is_read_reg _) o nb t = o
+unopened_kind c p spi_attach is_spi_attach o nb t = o
+unopened_kind c p flash_digest (is_flash_digest _) o nb t = o
+unopened_kind c p unknown is_unknown o nb t = o
 
 -- with none open, only a good flash BEGIN opens one
-pub unopened : (c : Core) (p : Packet) → flash_open c.session ≡ false → flash_begin (lengths c) p ≡ false
+pub unopened : (c : Core) (p : Packet) → flash_open c.session ≡ false → good_flash_begin (lengths c) p ≡ false
     → flash_open (handle c p).core.session ≡ false
 unfolding handle carried_out failed
 unopened c (dropped w) o nb = o

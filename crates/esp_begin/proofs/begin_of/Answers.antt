@@ -1,6 +1,5 @@
 use mathlib.Core.Path.{refl}
 use Rattle.esp_begin.specs.Begin.{begin_of}
-use borrow.Author.Rules.{rules}
 use Rattle.esp_begin.proofs.begin_of.Goals as goal
 
 pub returns : goal.returns

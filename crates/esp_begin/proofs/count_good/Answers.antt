@@ -1,7 +1,6 @@
 -- Blocks of no bytes, and the count compared.
-use mathlib.Core.Path.{◌≡◌, sym, ◌∙◌}
+use mathlib.Core.Path.{sym}
 use native.Mathlib.Omega.{arith}
-use borrow.Author.Rules.{rules}
 use Rattle.esp_begin.specs.Begin.{counted}
 use Rattle.esp_begin.proofs.Count.{alone, count_fills, none_of_block_0}
 use Rattle.esp_begin.proofs.count_good.Goals as goal

@@ -1,9 +1,8 @@
 -- One case for each branch: blocks of no bytes, no bytes, and the quotient.
 use Prim.Native.Nat.{◌-◌}
-use mathlib.Core.Path.{◌≡◌, sym, ◌∙◌}
+use mathlib.Core.Path.{◌≡◌, sym}
 use native.Mathlib.Nat.{div-le_self}
 use native.Mathlib.Omega.{arith}
-use borrow.Author.Rules.{rules}
 use Rattle.esp_begin.proofs.Count.{none, one_less, same, count_0, count_fills}
 use Rattle.esp_begin.proofs.count_of.Goals as goal
 

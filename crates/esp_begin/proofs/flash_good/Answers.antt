@@ -1,7 +1,6 @@
 use mathlib.Core.Path.{refl}
 use Rattle.esp_begin.specs.Begin.{flash_rule, round_up}
 use native.Mathlib.Omega.{arith}
-use borrow.Author.Rules.{rules}
 use Rattle.esp_begin.proofs.flash_good.Goals as goal
 
 pub overflow_add-last : goal.overflow_add-last

@@ -4,7 +4,6 @@ use mathlib.Core.Path.{ap}
 use mathlib.Core.Bool.{◌&&◌}
 use lib.Bits.{and_mask}
 use lib.Dec.{leb, eqb}
-use borrow.Author.Rules.{rules}
 use Rattle.esp_begin.specs.Flash.{flash_length}
 use Rattle.esp_begin.proofs.flash_length_good.Goals as goal
 

@@ -1,6 +1,5 @@
 use mathlib.Core.Path.{refl}
 use Rattle.esp_begin.specs.Begin.{memory_rule}
-use borrow.Author.Rules.{rules}
 use Rattle.esp_begin.proofs.memory_good.Goals as goal
 
 pub returns : goal.returns

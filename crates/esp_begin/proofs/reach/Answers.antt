@@ -3,7 +3,6 @@ use Prim.Native.Nat.{ℕ, ◌*◌, ◌≤◌, ◌<◌}
 use mathlib.Core.Path.{◌≡◌}
 use native.Mathlib.Nat.{mul-zero}
 use native.Mathlib.Omega.{arith}
-use borrow.Author.Rules.{rules}
 use Rattle.esp_begin.specs.Begin.{reached}
 use Rattle.esp_begin.proofs.Quotients.{up_to_quotient, past_quotient}
 use Rattle.esp_begin.proofs.reach.Goals as goal

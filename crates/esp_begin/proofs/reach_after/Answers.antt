@@ -1,7 +1,6 @@
 -- One block more than k is the product and a block.
 use Prim.Native.Nat.{ℕ}
 use native.Mathlib.Omega.{arith}
-use borrow.Author.Rules.{rules}
 use Rattle.esp_begin.specs.Begin.{reached}
 use Rattle.esp_begin.proofs.Sectors.{next-block}
 use Rattle.esp_begin.proofs.reach_after.Goals as goal

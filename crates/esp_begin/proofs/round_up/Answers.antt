@@ -1,6 +1,5 @@
 use native.Mathlib.Omega.{arith}
 use Rattle.esp_begin.specs.Begin.{round_up}
-use borrow.Author.Rules.{rules}
 use Rattle.esp_begin.proofs.round_up.Goals as goal
 
 pub returns : goal.returns

@@ -3,7 +3,6 @@ use Rattle.esp_begin.specs.Begin.{memory_end}
 use borrow.Author.Tests.{le-leb, lt-leb}
 use mathlib.Core.Path.{sym}
 use native.Mathlib.Omega.{arith}
-use borrow.Author.Rules.{rules}
 use Rattle.esp_begin.proofs.up_to_end.Goals as goal
 
 pub returns-then-address-start : goal.returns-then-address-start

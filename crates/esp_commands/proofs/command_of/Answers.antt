@@ -2,7 +2,6 @@ use Rattle.esp_commands.specs.Header.{command}
 use lib.ListN.{get_or-eq_default}
 use mathlib.Core.Path.{refl, sym}
 use native.Mathlib.Omega.{arith}
-use borrow.Author.Rules.{rules}
 use Rattle.esp_commands.proofs.command_of.Goals as goal
 
 pub returns-then-packet-gt1 : goal.returns-then-packet-gt1

@@ -5,7 +5,6 @@ use native.Mathlib.Omega.{arith}
 use Rattle.esp_begin.specs.Begin.{reached}
 use Rattle.esp_commands.specs.Block.{padding_good, padding, payload}
 use lib.Seq.{drop-drop}
-use borrow.Author.Rules.{rules}
 use Rattle.esp_commands.proofs.padding_good.Goals as goal
 
 pub overflow_sub-left : goal.overflow_sub-left

@@ -1,6 +1,5 @@
 use mathlib.Core.Path.{refl}
 use Rattle.esp_commands.specs.Header.{shaped}
-use borrow.Author.Rules.{rules}
 use Rattle.esp_commands.proofs.shape_good.Goals as goal
 
 pub returns : goal.returns

@@ -1,6 +1,5 @@
 use mathlib.Core.Path.{refl}
 use Rattle.esp_commands.specs.Header.{sized}
-use borrow.Author.Rules.{rules}
 use Rattle.esp_commands.proofs.size_told.Goals as goal
 
 pub returns : goal.returns

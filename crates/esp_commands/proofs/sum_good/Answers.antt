@@ -1,6 +1,5 @@
 use mathlib.Core.Path.{refl}
 use Rattle.esp_commands.specs.Block.{sum_good, payload}
-use borrow.Author.Rules.{rules}
 use Rattle.esp_commands.proofs.sum_good.Goals as goal
 
 pub returns : goal.returns

@@ -1,6 +1,5 @@
 use mathlib.Core.Path.{refl}
 use Rattle.esp_commands.specs.Block.{zero_words}
-use borrow.Author.Rules.{rules}
 use Rattle.esp_commands.proofs.zero_words_good.Goals as goal
 
 pub returns : goal.returns

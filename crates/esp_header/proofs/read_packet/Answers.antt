@@ -4,7 +4,6 @@ use mathlib.Core.Path.{refl}
 use native.Mathlib.Omega.{arith}
 use borrow.Author.Tests.{eq-eqb, ne_eqb, le-leb, lt-leb}
 use lib.ListN.{length, get_or}
-use borrow.Author.Rules.{rules}
 use Rattle.esp_header.proofs.read_packet.Goals as goal
 
 pub returns-then-packet-lt-HEADER : goal.returns-then-packet-lt-HEADER

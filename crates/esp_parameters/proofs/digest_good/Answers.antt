@@ -1,6 +1,5 @@
 use mathlib.Core.Path.{refl}
 use Rattle.esp_parameters.specs.Parameters.{digest_rule}
-use borrow.Author.Rules.{rules}
 use Rattle.esp_parameters.proofs.digest_good.Goals as goal
 
 pub returns : goal.returns

@@ -1,7 +1,6 @@
 use mathlib.Core.Path.{refl}
 use Rattle.esp_parameters.specs.Parameters.{in_words}
 use native.Mathlib.Numerals.{add-one}
-use borrow.Author.Rules.{rules}
 use Rattle.esp_parameters.proofs.in_words.Goals as goal
 
 pub returns : goal.returns

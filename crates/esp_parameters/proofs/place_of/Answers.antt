@@ -1,6 +1,5 @@
 use Rattle.esp_parameters.specs.Parameters.{place}
 use mathlib.Core.Path.{refl}
-use borrow.Author.Rules.{rules}
 use Rattle.esp_parameters.proofs.place_of.Goals as goal
 
 pub returns : goal.returns

@@ -1,6 +1,5 @@
 use mathlib.Core.Path.{refl}
 use Rattle.esp_parameters.specs.Parameters.{register_rule}
-use borrow.Author.Rules.{rules}
 use Rattle.esp_parameters.proofs.register_good.Goals as goal
 
 pub returns : goal.returns

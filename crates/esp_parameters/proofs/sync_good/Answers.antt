@@ -2,7 +2,6 @@ use mathlib.Core.Path.{refl}
 use Rattle.esp_parameters.specs.Parameters.{sync_rule}
 use Rattle.esp_parameters.proofs.Sync.{too_short}
 use native.Mathlib.Omega.{arith}
-use borrow.Author.Rules.{rules}
 use Rattle.esp_parameters.proofs.sync_good.Goals as goal
 
 pub returns-then-packet-lt-SECOND_WORD : goal.returns-then-packet-lt-SECOND_WORD

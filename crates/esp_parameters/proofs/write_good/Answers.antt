@@ -1,6 +1,5 @@
 use mathlib.Core.Path.{refl}
 use Rattle.esp_parameters.specs.Parameters.{write_rule}
-use borrow.Author.Rules.{rules}
 use Rattle.esp_parameters.proofs.write_good.Goals as goal
 
 pub returns : goal.returns

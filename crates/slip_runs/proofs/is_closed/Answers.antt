@@ -1,5 +1,4 @@
 use mathlib.Core.Path.{refl}
-use borrow.Author.Rules.{rules}
 use Rattle.slip_runs.proofs.is_closed.Goals as goal
 
 pub returns-in-Open : goal.returns-in-Open

@@ -1,9 +1,6 @@
-use Prim.Native.Nat.{◌-◌, ◌≤◌}
-use mathlib.Core.Path.{◌≡◌, refl, sym, ◌∙◌}
+use mathlib.Core.Path.{refl, sym, ◌∙◌}
 use native.Mathlib.Omega.{arith}
-use borrow.Author.Rules.{rules}
-use lib.ListN.{length}
-use Rattle.slip_runs.proofs.Passing.{Leads, leads_none, passed, ended, whole}
+use Rattle.slip_runs.proofs.Passing.{leads_none, passed, ended, whole}
 use Rattle.slip_runs.proofs.run.Goals as goal
 
 pub loop-i-init : goal.loop-i-init
