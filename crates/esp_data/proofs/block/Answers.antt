@@ -1,10 +1,9 @@
-use mathlib.Core.Path.{◌≡◌, sym, ap, ◌∙◌}
+use mathlib.Core.Path.{sym, ap, ◌∙◌}
 use native.Mathlib.Omega.{arith}
 use Rattle.slip_framing.proofs.Refusals.{framed_as}
 use Rattle.esp_data.specs.Data.{data_packet}
 use Rattle.esp_data.proofs.Lengths.{block_too_long, part_too_long}
 use Rattle.esp_data.proofs.Parts.{none_missing, some_missing, padding-length, parts_fit}
-use borrow.Author.Rules.{rules}
 use Rattle.esp_data.proofs.block.Goals as goal
 
 pub returns-then-block-gt-LARGEST_BLOCK : goal.returns-then-block-gt-LARGEST_BLOCK

@@ -1,6 +1,5 @@
 use mathlib.Core.Path.{refl}
 use Rattle.esp_data.proofs.Parts.{head_whole}
-use borrow.Author.Rules.{rules}
 use Rattle.esp_data.proofs.block_head.Goals as goal
 
 pub returns : goal.returns

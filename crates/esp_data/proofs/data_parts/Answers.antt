@@ -2,7 +2,6 @@ use mathlib.Core.Path.{sym}
 use lib.ListN.{length-append}
 use Rattle.slip_framing.proofs.Refusals.{framed_as}
 use Rattle.esp_data.proofs.Parts.{data_whole, sum_of_parts}
-use borrow.Author.Rules.{rules}
 use Rattle.esp_data.proofs.data_parts.Goals as goal
 
 pub returns : goal.returns

@@ -1,6 +1,5 @@
 use Rattle.slip_framing.proofs.Refusals.{framed_as}
 use Rattle.esp_requests.proofs.Parts.{begin-whole}
-use borrow.Author.Rules.{rules}
 use Rattle.esp_requests.proofs.begin.Goals as goal
 
 pub returns : goal.returns

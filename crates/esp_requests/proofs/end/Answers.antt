@@ -1,7 +1,6 @@
 use mathlib.Core.Path.{refl}
 use Rattle.slip_framing.proofs.Refusals.{framed_as}
 use Rattle.esp_requests.specs.Requests.{request, end_packet}
-use borrow.Author.Rules.{rules}
 use Rattle.esp_requests.proofs.end.Goals as goal
 
 pub returns : goal.returns

@@ -1,5 +1,4 @@
 use mathlib.Core.Path.{refl}
-use borrow.Author.Rules.{rules}
 use Rattle.esp_requests.proofs.four_words.Goals as goal
 
 pub returns : goal.returns
