@@ -2,7 +2,7 @@
 use mathlib.Core.Path.{◌≡◌, refl, sym, ◌∙◌}
 use mathlib.Core.List.{List, [], ◌∷◌, ◌++◌, append_assoc, append-nil}
 use mathlib.Core.Bool.{true}
-use Prim.Native.Nat.{ℕ, ◌+◌, ◌-◌, ◌≤◌, ◌<◌}
+use Prim.Native.Nat.{ℕ, ◌-◌, ◌≤◌, ◌<◌}
 use native.Mathlib.Omega.{arith}
 use borrow.Author.Tests.{eqb-true, eq-eqb, leb-true, le-leb}
 use lib.Dec.{eqb, leb}
@@ -15,7 +15,7 @@ use Rattle.esp_begin.specs.declared.Lengths.{Lengths}
 use Rattle.esp_commands.specs.Header.{command, sized, shaped, data_shaped}
 use Rattle.esp_commands.specs.Block.{payload, zero_words, sum_good, padding, padding_good}
 use Rattle.esp_parameters.specs.Parameters.{flash_end_rule}
-use Rattle.grammar.specs.Grammar.{flash_begin, memory_begin, any_begin, good_block, flash_end, carries, packet, filler_block, filler_end, block, end}
+use Rattle.grammar.specs.Grammar.{flash_begin, memory_begin, any_begin, good_block, flash_end, carries, packet, filler_block, filler_end}
 use Rattle.grammar.specs.Loaded.{image}
 use Rattle.grammar.specs.Theorems.{OneChoice, NothingBetween, Whole, WholeBlock, GoodMeans, GoodPackets, DataEndToEnd, LoadedIsLaid, DigestIsFiller}
 use Rattle.grammar.proofs.Goodness.{GoodBlock, flash_begin_parts, flash_begin-whole, memory_begin_parts, memory_begin-whole, end_parts, end_whole, block_parts, block-whole}

@@ -1,6 +1,5 @@
 -- The rounds, and then the sums.
 use Rattle.digest_block.specs.Rounds.{increased, block_of}
-use Rattle.std.proofs.Common.{rules}
 use Rattle.digest_block.proofs.block.Goals as goal
 
 pub returns : goal.returns

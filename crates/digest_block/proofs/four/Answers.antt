@@ -1,5 +1,5 @@
 -- The rotations are in the table, so each is from 1 to 31.
-use Rattle.std.proofs.Common.{arith, rules}
+use Rattle.std.proofs.Common.{arith}
 use Rattle.digest_block.specs.Rounds.{four_of}
 use Rattle.digest_block.proofs.Numbers.{shift_small}
 use Rattle.digest_block.proofs.four.Goals as goal

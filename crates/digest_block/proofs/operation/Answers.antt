@@ -1,6 +1,5 @@
 -- The sums, in the order of the definition.
 use Rattle.digest_block.specs.Rounds.{operation_of}
-use Rattle.std.proofs.Common.{rules}
 use Rattle.digest_block.proofs.operation.Goals as goal
 
 pub returns : goal.returns

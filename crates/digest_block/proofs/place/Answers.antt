@@ -1,5 +1,5 @@
 -- Each round has its rule for k; that the rules give the RFC's list is one computed test.
-use Rattle.std.proofs.Common.{◌≡◌, arith, rules}
+use Rattle.std.proofs.Common.{◌≡◌, arith}
 use Rattle.digest_block.proofs.Numbers.{place_ruled}
 use Rattle.digest_block.proofs.place.Goals as goal
 

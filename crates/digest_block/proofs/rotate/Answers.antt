@@ -1,6 +1,5 @@
 -- What the two shifts leave has no bit in common, so `|` is their sum.
 use Rattle.digest_block.proofs.Rotation.{rotates}
-use Rattle.std.proofs.Common.{rules}
 use Rattle.digest_block.proofs.rotate.Goals as goal
 
 pub returns : goal.returns

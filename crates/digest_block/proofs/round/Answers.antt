@@ -1,5 +1,5 @@
 -- Four times four operations.
-use Rattle.std.proofs.Common.{refl, rules}
+use Rattle.std.proofs.Common.{refl}
 use Rattle.digest_block.specs.Rounds.{round_of}
 use Rattle.digest_block.proofs.round.Goals as goal
 

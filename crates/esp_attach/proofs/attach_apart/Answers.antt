@@ -1,5 +1,4 @@
 use mathlib.Core.Path.{refl}
-use borrow.Author.Rules.{rules}
 use Rattle.esp_attach.specs.Pins.{attach_apart}
 use Rattle.esp_attach.proofs.attach_apart.Goals as goal
 

@@ -1,5 +1,4 @@
 use mathlib.Core.Path.{refl}
-use borrow.Author.Rules.{rules}
 use Rattle.esp_attach.specs.Pins.{attach_rule}
 use Rattle.esp_attach.proofs.attach_ruled.Goals as goal
 

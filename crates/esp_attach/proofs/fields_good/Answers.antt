@@ -1,5 +1,4 @@
 use mathlib.Core.Path.{refl}
-use borrow.Author.Rules.{rules}
 use Rattle.esp_attach.specs.Pins.{fields_good}
 use Rattle.esp_attach.proofs.fields_good.Goals as goal
 

@@ -1,5 +1,4 @@
 use mathlib.Core.Path.{sym, ◌∙◌}
-use borrow.Author.Rules.{rules}
 use Rattle.pins.proofs.Packs.{packs, packs_equal, packs_none, packs_bad}
 use Rattle.pins.proofs.pack.Goals as goal
 

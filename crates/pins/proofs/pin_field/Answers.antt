@@ -1,5 +1,4 @@
 use mathlib.Core.Path.{refl}
-use borrow.Author.Rules.{rules}
 use borrow.Author.Tests.{lt-ltb, le-ltb}
 use Rattle.pins.specs.Packer.{pin_field}
 use Rattle.pins.proofs.pin_field.Goals as goal

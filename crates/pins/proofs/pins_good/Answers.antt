@@ -1,5 +1,4 @@
 use mathlib.Core.Path.{refl}
-use borrow.Author.Rules.{rules}
 use Rattle.pins.specs.Packer.{pins_good}
 use Rattle.pins.proofs.pins_good.Goals as goal
 

@@ -1,7 +1,6 @@
 -- The fields of good pins are below 64, so shifted and joined they are the word.
 use Prim.Native.Nat.{ℕ, ◌<◌}
 use native.Mathlib.Omega.{arith}
-use borrow.Author.Rules.{rules}
 use Rattle.pins.specs.Packer.{pins_word}
 use Rattle.pins.proofs.Fields.{each-good, fields_small, packed-is}
 use Rattle.pins.proofs.pins_word.Goals as goal
