@@ -12,7 +12,7 @@ use lib.ListN.{length, take, replicate, length-append}
 use lib.Seq.{take_at}
 use Rattle.lists.specs.Lay.{lay}
 use Rattle.lists.proofs.Tests.{both}
-use Rattle.slip_framing.specs.Frame.{end_byte, longest, escaped, framed, refusal}
+use Rattle.slip_framing.specs.Frame.{end_byte, longest, escaped, framed}
 use Rattle.slip_unframing.specs.Reasons.{Contents, whole}
 use Rattle.slip_packets.specs.Packets.{header}
 use Rattle.slip_unframing.specs.Line.{Closed, line_state, silent, step_of}

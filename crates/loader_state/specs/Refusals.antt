@@ -1,5 +1,5 @@
 -- Refusals 1 to 5 of a call, in their order.
-use Rattle.std.specs.Prelude.{List, [], ◌∷◌, ◌++◌, Bool, ◌&&◌, ℕ, ◌%◌, nat_le, nat_eq}
+use Rattle.std.specs.Prelude.{List, [], ◌∷◌, ◌++◌, Bool, ◌&&◌, ℕ, nat_le}
 use Rattle.lists.specs.Checks.{Check, ◌or_else◌, first}
 use Rattle.esp_attach.specs.Pins.{attach_good}
 use Rattle.slip_framing.specs.Frame.{longest}

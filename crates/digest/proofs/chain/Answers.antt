@@ -1,9 +1,5 @@
-use mathlib.Core.Path.{◌≡◌, refl}
-use Prim.Native.Nat.{◌-◌, ◌≤◌}
+use mathlib.Core.Path.{refl}
 use native.Mathlib.Omega.{arith}
-use borrow.Author.Rules.{rules}
-use lib.ListN.{length, drop}
-use Rattle.digest.specs.Blocks.{chained}
 use Rattle.digest.proofs.Chained.{chained_more, chained-end}
 use Rattle.digest.proofs.chain.Goals as goal
 

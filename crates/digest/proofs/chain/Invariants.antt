@@ -1,11 +1,8 @@
 -- The loop's invariant: what is left makes of `q` what the whole makes of the registers at the call.
-use mathlib.Core.Path.{◌≡◌, refl}
+use mathlib.Core.Path.{◌≡◌}
 use Prim.Native.Nat.{◌-◌, ◌≤◌}
-use native.Mathlib.Omega.{arith}
-use borrow.Author.Rules.{rules}
 use lib.ListN.{length, drop}
 use Rattle.digest.specs.Blocks.{chained}
-use Rattle.digest.proofs.Chained.{chained_more, chained-end}
 use Rattle.digest.proofs.chain.Given as goal
 
 abbrev pub invariant-loop-i : goal.invariant-loop-i

@@ -2,7 +2,6 @@
 use Rattle.digest.specs.Blocks.{start}
 use Rattle.digest.specs.Digest.{md5_of}
 use Rattle.digest.proofs.Chained.{chained-tail}
-use borrow.Author.Rules.{rules}
 use Rattle.digest.proofs.digest.Goals as goal
 
 pub returns : goal.returns

@@ -3,7 +3,6 @@ use lib.Seq.{length-take-le}
 use mathlib.Core.Path.{sym}
 use native.Mathlib.Omega.{arith}
 use lib.Seq.{take_all}
-use borrow.Author.Rules.{rules}
 use Rattle.digest.proofs.first.Goals as goal
 
 pub returns-then-s-n : goal.returns-then-s-n

@@ -1,6 +1,5 @@
 -- The shift is the product by 8 modulo 2 ^ 64.
 use Rattle.digest.specs.Padding.{bits_of, length_of}
-use borrow.Author.Rules.{rules}
 use Rattle.digest.proofs.length_bytes.Goals as goal
 
 pub returns : goal.returns

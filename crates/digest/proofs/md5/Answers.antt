@@ -1,5 +1,4 @@
 -- The part of flash is the message.
-use borrow.Author.Rules.{rules}
 use Rattle.digest.proofs.md5.Goals as goal
 
 pub returns : goal.returns

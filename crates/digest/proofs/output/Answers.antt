@@ -6,7 +6,6 @@ use Rattle.fields.specs.Words.{bytes_of}
 use Rattle.digest_block.specs.declared.Registers.{Registers}
 use Rattle.lists.specs.Lay.{lay, lay_if_fits}
 use Rattle.digest.specs.Digest.{output_of}
-use borrow.Author.Rules.{rules}
 use Rattle.digest.proofs.output.Goals as goal
 
 laid : (r : Registers)

@@ -4,7 +4,6 @@ use mathlib.Core.Path.{◌≡◌}
 use native.Mathlib.Omega.{arith}
 use lib.ListN.{length}
 use Rattle.digest.proofs.Padded.{tail_laid}
-use borrow.Author.Rules.{rules}
 use Rattle.digest.proofs.tail.Goals as goal
 
 pub returns : goal.returns

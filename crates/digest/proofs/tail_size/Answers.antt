@@ -1,7 +1,6 @@
 -- Either way it is the rest, the mark, the zeros and the length.
 use native.Mathlib.Omega.{arith}
 use Rattle.digest.specs.Padding.{zeros_of}
-use borrow.Author.Rules.{rules}
 use Rattle.digest.proofs.tail_size.Goals as goal
 
 pub returns-then-rest-lt56 : goal.returns-then-rest-lt56

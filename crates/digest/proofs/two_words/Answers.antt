@@ -1,6 +1,5 @@
 -- The bytes of the one, then of the other.
 use mathlib.Core.Path.{refl}
-use borrow.Author.Rules.{rules}
 use Rattle.digest.proofs.two_words.Goals as goal
 
 pub returns : goal.returns

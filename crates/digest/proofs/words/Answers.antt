@@ -1,8 +1,6 @@
-use mathlib.Core.Path.{◌≡◌, ◌∙◌}
-use Prim.Native.Nat.{◌-◌, ◌≤◌}
+use mathlib.Core.Path.{◌∙◌}
 use native.Mathlib.Omega.{arith}
-use borrow.Author.Rules.{rules}
-use Rattle.digest.proofs.Sixteen.{filled, filled_none, filled_more, filled-all}
+use Rattle.digest.proofs.Sixteen.{filled_none, filled_more, filled-all}
 use Rattle.digest.proofs.words.Goals as goal
 
 pub loop-k-init : goal.loop-k-init

@@ -1,9 +1,7 @@
 -- The loop's invariant: the first `k` words are filled in.
-use mathlib.Core.Path.{◌≡◌, ◌∙◌}
+use mathlib.Core.Path.{◌≡◌}
 use Prim.Native.Nat.{◌-◌, ◌≤◌}
-use native.Mathlib.Omega.{arith}
-use borrow.Author.Rules.{rules}
-use Rattle.digest.proofs.Sixteen.{filled, filled_none, filled_more, filled-all}
+use Rattle.digest.proofs.Sixteen.{filled}
 use Rattle.digest.proofs.words.Given as goal
 
 abbrev pub invariant-loop-k : goal.invariant-loop-k

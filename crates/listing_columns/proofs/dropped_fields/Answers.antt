@@ -1,7 +1,6 @@
 -- Each arm knows its reason, and its bytes are the reason's fields.
 use mathlib.Core.Path.{refl}
 use Rattle.slip_unframing.specs.Reasons.{letters}
-use borrow.Author.Rules.{rules}
 use Rattle.listing_columns.proofs.dropped_fields.Goals as goal
 
 pub returns-in-BadEscape : goal.returns-in-BadEscape

@@ -1,4 +1,3 @@
-use borrow.Author.Rules.{rules}
 use Rattle.listing_columns.proofs.read_fields.Goals as goal
 
 pub returns : goal.returns

@@ -1,5 +1,4 @@
 use Rattle.loader.proofs.Calls.{fed-one}
-use borrow.Author.Rules.{rules}
 use Rattle.loader.proofs.feed.Goals as goal
 
 pub returns : goal.returns

@@ -1,5 +1,4 @@
 use Rattle.loader_act.proofs.Acts.{acts_dropped, acts_read}
-use borrow.Author.Rules.{rules}
 use Rattle.loader_act.proofs.act.Goals as goal
 
 pub returns-in_default : goal.returns-in_default

@@ -1,5 +1,4 @@
 -- The dropped arm knows its reason; the other contradicts what is required.
-use borrow.Author.Rules.{rules}
 use Rattle.loader_act.proofs.reason_of.Goals as goal
 
 pub returns-in-Dropped : goal.returns-in-Dropped

@@ -1,4 +1,3 @@
-use borrow.Author.Rules.{rules}
 use Rattle.loader_answers.proofs.reply.Goals as goal
 
 pub returns-then-body : goal.returns-then-body

@@ -1,7 +1,6 @@
 -- The header, the body and the status bytes are framed as the parts of one answer.
 use mathlib.Core.Path.{refl}
 use native.Mathlib.Omega.{arith}
-use borrow.Author.Rules.{rules}
 use Rattle.slip_framing.proofs.Refusals.{framed_as}
 use Rattle.loader_answers.proofs.Replies.{replied, unreplied, answer-whole, too_long}
 use Rattle.loader_answers.proofs.send.Goals as goal

@@ -1,11 +1,8 @@
-use Prim.Native.Nat.{ℕ, ◌-◌, ◌≤◌}
+use Prim.Native.Nat.{ℕ}
 use mathlib.Core.Path.{◌≡◌, refl, sym}
 use native.Mathlib.Omega.{arith}
-use borrow.Author.Rules.{rules}
-use lib.ListN.{length, length-set}
-use Rattle.lists.specs.Lay.{lay}
+use lib.ListN.{length-set}
 use Rattle.lists.proofs.Laws.{lay-nil}
-use Rattle.esp_commands.specs.Block.{payload}
 use Rattle.loader_blocks.specs.Memory.{words_of}
 use Rattle.loader_blocks.proofs.Memory.{packed-next}
 use Rattle.loader_blocks.proofs.pack_at.Goals as goal

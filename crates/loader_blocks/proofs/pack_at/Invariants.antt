@@ -1,13 +1,9 @@
-use Prim.Native.Nat.{ℕ, ◌-◌, ◌≤◌}
-use mathlib.Core.Path.{◌≡◌, refl, sym}
-use native.Mathlib.Omega.{arith}
-use borrow.Author.Rules.{rules}
-use lib.ListN.{length, length-set}
+use Prim.Native.Nat.{◌-◌, ◌≤◌}
+use mathlib.Core.Path.{◌≡◌}
+use lib.ListN.{length}
 use Rattle.lists.specs.Lay.{lay}
-use Rattle.lists.proofs.Laws.{lay-nil}
 use Rattle.esp_commands.specs.Block.{payload}
 use Rattle.loader_blocks.specs.Memory.{words_of}
-use Rattle.loader_blocks.proofs.Memory.{packed-next}
 use Rattle.loader_blocks.proofs.pack_at.Given as goal
 
 abbrev pub invariant-loop-i : goal.invariant-loop-i

@@ -2,7 +2,6 @@ use native.Mathlib.Omega.{arith}
 use Rattle.esp_begin.specs.Begin.{round_up}
 use Rattle.esp_begin.proofs.Sectors.{reaches}
 use Rattle.loader_blocks.proofs.Flash.{block_written, no_sector, too_short}
-use borrow.Author.Rules.{rules}
 use Rattle.loader_blocks.proofs.write_flash.Goals as goal
 
 pub overflow_sub-n : goal.overflow_sub-n

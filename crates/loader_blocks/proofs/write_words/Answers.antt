@@ -1,7 +1,6 @@
 use native.Mathlib.Omega.{arith}
 use Rattle.esp_begin.proofs.Sectors.{reaches}
 use Rattle.loader_blocks.proofs.Memory.{words_written_lem, no_places, too_short}
-use borrow.Author.Rules.{rules}
 use Rattle.loader_blocks.proofs.write_words.Goals as goal
 
 pub overflow_sub-size : goal.overflow_sub-size

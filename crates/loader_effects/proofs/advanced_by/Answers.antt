@@ -1,5 +1,4 @@
 use Rattle.loader_sessions.specs.Session.{accepted, advanced}
-use borrow.Author.Rules.{rules}
 use Rattle.loader_effects.proofs.advanced_by.Goals as goal
 
 pub overflow_add-result : goal.overflow_add-result

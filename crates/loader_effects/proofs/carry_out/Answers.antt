@@ -7,7 +7,6 @@ use Rattle.fields.specs.Words.{word}
 use Rattle.loader_effects.proofs.Passing.{flash_data, memory_data, flash-word, memory_word, flash-told, memory_told}
 use Rattle.loader_effects.proofs.Fitting.{flash_written_lem, words_written_lem}
 use Rattle.loader_effects.proofs.Carried.{does_at, does_none, leaves}
-use borrow.Author.Rules.{rules}
 use Rattle.loader_effects.proofs.carry_out.Goals as goal
 
 pub advanced_by-requires : goal.advanced_by-requires

@@ -1,7 +1,6 @@
 use mathlib.Core.Path.{sym, ◌∙◌}
 use Rattle.loader_sessions.proofs.Sound.{if_sound-good}
 use Rattle.loader_effects.proofs.Handled.{obeyed-failed, obeyed-done}
-use borrow.Author.Rules.{rules}
 use Rattle.loader_effects.proofs.obey.Goals as goal
 
 pub returns-then-error-ne0 : goal.returns-then-error-ne0

@@ -4,7 +4,6 @@ use mathlib.Core.Bool.{Bool, cond}
 use Rattle.loader_errors.specs.Errors.{attach_checks}
 use Rattle.lists.specs.Checks.{first}
 use Rattle.esp_attach.specs.Pins.{attach_rule, attach_apart}
-use borrow.Author.Rules.{rules}
 use Rattle.loader_errors.proofs.attach_error.Goals as goal
 
 -- the three rows, one inside the other, each with its test and its number

@@ -1,7 +1,6 @@
 use mathlib.Core.Path.{refl}
 use Rattle.loader_errors.specs.Errors.{data_checks}
 use Rattle.lists.proofs.Tests.{row, no_row}
-use borrow.Author.Rules.{rules}
 use Rattle.loader_errors.proofs.data_error.Goals as goal
 
 pub returns : goal.returns

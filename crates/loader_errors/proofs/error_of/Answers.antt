@@ -1,7 +1,6 @@
 use mathlib.Core.Path.{refl}
 use Rattle.loader_errors.specs.Errors.{checks, kind}
 use Rattle.loader_errors.proofs.Numbers.{error-at, kind-none, error-none}
-use borrow.Author.Rules.{rules}
 use Rattle.loader_errors.proofs.error_of.Goals as goal
 
 pub returns-in-2 : goal.returns-in-2

@@ -1,7 +1,6 @@
 use mathlib.Core.Path.{refl}
 use Rattle.loader_errors.specs.Errors.{plain_checks}
 use Rattle.lists.specs.Checks.{first}
-use borrow.Author.Rules.{rules}
 use Rattle.loader_errors.proofs.plain_error.Goals as goal
 
 pub returns : goal.returns

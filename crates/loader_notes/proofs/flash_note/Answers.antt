@@ -1,7 +1,6 @@
 use mathlib.Core.Path.{ap}
 use native.Mathlib.Omega.{arith}
 use Rattle.loader_notes.specs.Notes.{end_word}
-use borrow.Author.Rules.{rules}
 use Rattle.loader_notes.proofs.flash_note.Goals as goal
 
 pub returns-then-word_at-eq0 : goal.returns-then-word_at-eq0

@@ -1,6 +1,5 @@
 use mathlib.Core.Path.{refl}
 use borrow.Author.Tests.{ne_eqb}
-use borrow.Author.Rules.{rules}
 use Rattle.loader_notes.proofs.memory_note.Goals as goal
 
 pub returns-then-word_at-eq0 : goal.returns-then-word_at-eq0

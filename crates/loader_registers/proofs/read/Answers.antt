@@ -1,7 +1,6 @@
 use mathlib.Core.Path.{refl, sym}
 use lib.ListN.{get_or-eq_default}
 use Rattle.loader_registers.specs.Registers.{register_read}
-use borrow.Author.Rules.{rules}
 use Rattle.loader_registers.proofs.read.Goals as goal
 
 pub returns-then-at-words : goal.returns-then-at-words

@@ -1,7 +1,6 @@
 use mathlib.Core.Path.{refl, sym}
 use lib.Seq.{set_out}
 use Rattle.loader_registers.specs.Registers.{register_read, register_written}
-use borrow.Author.Rules.{rules}
 use Rattle.loader_registers.proofs.write.Goals as goal
 
 pub returns-then-at-words : goal.returns-then-at-words

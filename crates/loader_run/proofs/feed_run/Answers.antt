@@ -1,7 +1,6 @@
 use mathlib.Core.Path.{sym}
 use lib.Seq.{length-take-le}
 use Rattle.loader_run.proofs.Calls.{refused, bytes-taken, packet-broken, whole-fits, packet-acted}
-use borrow.Author.Rules.{rules}
 use Rattle.loader_run.proofs.feed_run.Goals as goal
 
 pub returns-then-number-ne0 : goal.returns-then-number-ne0

@@ -1,5 +1,4 @@
 use Rattle.loader_sessions.specs.Session.{accepted}
-use borrow.Author.Rules.{rules}
 use Rattle.loader_sessions.proofs.accepted_by.Goals as goal
 
 pub returns-in-Closed : goal.returns-in-Closed

@@ -1,6 +1,5 @@
 use mathlib.Core.Path.{refl}
 use Rattle.loader_sessions.specs.Session.{if_sound}
-use borrow.Author.Rules.{rules}
 use Rattle.loader_sessions.proofs.if_sound.Goals as goal
 
 pub returns-then-session_good : goal.returns-then-session_good

@@ -1,6 +1,5 @@
 use mathlib.Core.Path.{refl}
 use Rattle.loader_sessions.specs.Session.{memory_open}
-use borrow.Author.Rules.{rules}
 use Rattle.loader_sessions.proofs.memory_open.Goals as goal
 
 pub returns-in-Closed : goal.returns-in-Closed

@@ -1,6 +1,5 @@
 use mathlib.Core.Path.{refl}
 use Rattle.loader_sessions.specs.Session.{session_good}
-use borrow.Author.Rules.{rules}
 use Rattle.loader_sessions.proofs.session_good.Goals as goal
 
 pub returns-in-Closed : goal.returns-in-Closed

@@ -1,6 +1,5 @@
 use mathlib.Core.Path.{refl}
 use Rattle.loader_state.specs.Refusals.{record_good}
-use borrow.Author.Rules.{rules}
 use Rattle.loader_state.proofs.record_good.Goals as goal
 
 pub returns : goal.returns

@@ -1,7 +1,6 @@
 use mathlib.Core.Path.{refl}
 use Rattle.loader_state.specs.Refusals.{refusal, buffer_checks}
 use Rattle.lists.specs.Checks.{first}
-use borrow.Author.Rules.{rules}
 use Rattle.loader_state.proofs.refusal_of.Goals as goal
 
 pub returns : goal.returns
