@@ -1,7 +1,7 @@
 -- What the call leaves is all digits but the last.
 use mathlib.Core.Path.{ap}
 use native.Mathlib.Omega.{arith}
-use lib.ListN.{length, length-set}
+use lib.ListN.{length}
 use Rattle.listing_lines.proofs.Decimals.{decimal-short, length-long, put_one, put_last}
 use Rattle.listing_lines.proofs.+put_decimal.Goals as goal
 

@@ -1,7 +1,6 @@
 -- The line where it fits, else nothing.
 use mathlib.Core.Path.{sym, ◌∙◌}
 use borrow.Author.Tests.{leb-true}
-use borrow.Author.Rules.{rules}
 use Rattle.listing_lines.proofs.line.Goals as goal
 
 pub put_line-requires : goal.put_line-requires

@@ -6,7 +6,6 @@ use lib.Seq.{length-take-le}
 use Rattle.listing_lines.specs.Lines.{line_of}
 use Rattle.listing_lines.proofs.Decimals.{decimal-fits}
 use Rattle.listing_lines.proofs.Rows.{no_line, row, told-within, dropped_fit}
-use borrow.Author.Rules.{rules}
 use Rattle.listing_lines.proofs.put_line.Goals as goal
 
 pub slice_bounds-bytes-end : goal.slice_bounds-bytes-end

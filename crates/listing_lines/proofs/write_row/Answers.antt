@@ -5,7 +5,6 @@ use lib.ListN.{length-append}
 use Rattle.lists.proofs.Laws.{lay-lay}
 use Rattle.lists.proofs.Fits.{lay-fits}
 use Rattle.listing_lines.specs.Numbers.{decimal}
-use borrow.Author.Rules.{rules}
 use Rattle.listing_lines.proofs.write_row.Goals as goal
 
 pub returns : goal.returns

@@ -1,5 +1,5 @@
 -- Where a line fits, the loader's contract and the line of what it tells.
-use Rattle.std.proofs.Common.{sym, ◌∙◌, rules}
+use Rattle.std.proofs.Common.{sym, ◌∙◌}
 use Rattle.listing_lines.proofs.Rows.{used_appends, never_full}
 use Rattle.listing_report.specs.Listing.{list_step, full}
 use Rattle.listing_report.proofs.Reports.{lists_fed}

@@ -1,6 +1,5 @@
 -- By what the loader told.
 use Rattle.listing_report.specs.Listing.{report_of}
-use Rattle.std.proofs.Common.{rules}
 use Rattle.listing_report.proofs.listed_as.Goals as goal
 
 pub returns-in-Refused : goal.returns-in-Refused

@@ -1,5 +1,4 @@
 use Rattle.listing_report.specs.Listing.{number_after}
-use Rattle.std.proofs.Common.{rules}
 use Rattle.listing_report.proofs.next_number.Goals as goal
 
 pub returns-in-Refused : goal.returns-in-Refused

@@ -1,9 +1,5 @@
-use Prim.Native.Nat.{◌-◌, ◌≤◌}
-use mathlib.Core.Path.{◌≡◌, refl, sym, ◌∙◌}
+use mathlib.Core.Path.{◌∙◌}
 use native.Mathlib.Omega.{arith}
-use borrow.Author.Rules.{rules}
-use lib.ListN.{length, drop}
-use Rattle.sender_numbers.specs.Numbers.{largest, digits_from, digits_of}
 use Rattle.sender_numbers.proofs.DigitByDigit.{at-end, no_digit, one-digit, some-digits, no_digits}
 use Rattle.sender_numbers.proofs.digits.Goals as goal
 

@@ -1,11 +1,8 @@
 -- Loop: behind the number so far, cut to the largest, the digits that are left make what all of them make.
 use Prim.Native.Nat.{◌-◌, ◌≤◌}
-use mathlib.Core.Path.{◌≡◌, refl, sym, ◌∙◌}
-use native.Mathlib.Omega.{arith}
-use borrow.Author.Rules.{rules}
+use mathlib.Core.Path.{◌≡◌}
 use lib.ListN.{length, drop}
 use Rattle.sender_numbers.specs.Numbers.{largest, digits_from, digits_of}
-use Rattle.sender_numbers.proofs.DigitByDigit.{at-end, no_digit, one-digit, some-digits, no_digits}
 use Rattle.sender_numbers.proofs.digits.Given as goal
 
 abbrev pub invariant-loop-i : goal.invariant-loop-i

@@ -1,5 +1,4 @@
 use mathlib.Core.Path.{refl}
-use borrow.Author.Rules.{rules}
 use Rattle.sender_numbers.specs.Numbers.{is_hex}
 use Rattle.sender_numbers.proofs.DigitByDigit.{short_no_hex}
 use Rattle.sender_numbers.proofs.is_hex.Goals as goal

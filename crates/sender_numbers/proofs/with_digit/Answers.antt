@@ -1,5 +1,4 @@
 use native.Mathlib.Omega.{arith}
-use borrow.Author.Rules.{rules}
 use Rattle.sender_numbers.proofs.DigitByDigit.{fits, too_large}
 use Rattle.sender_numbers.proofs.with_digit.Goals as goal
 
