@@ -4,13 +4,14 @@
 
 ghost use Rattle.std.specs.Prelude.{◌≤◌};
 
-use libc::STDOUT_FILENO;
+use std::io;
 
 // How many lower-case hex digits a digest has.
 const DIGITS: usize = 32;
 
-fn write(text: &[u8]) {
-    io::write_all(STDOUT_FILENO, text);
+// The run goes on where its output fails.
+fn write(out: &impl Print, text: &[u8]) {
+    let _ = out.write_all(text);
 }
 
 // The digit of the low four bits, in lower case.
@@ -33,37 +34,40 @@ fn hex_of(digest: &[u8; 16]) -> [u8; DIGITS] {
 }
 
 // Prints the line of a message. 1 where its digest is as expected, else 0.
-fn run(message: &[u8], expected: &[u8]) -> u64
+fn run(out: &impl Print, message: &[u8], expected: &[u8]) -> u64
     ensures { result ≤ 1 }
 {
     let digest = digest::md5(message, 0, message.len());
     let text = hex_of(&digest);
-    write(&text);
+    write(out, &text);
     if lists::same(&text, expected) {
-        write(b"\tgood\n");
+        write(out, b"\tgood\n");
         return 1;
     }
-    write(b"\tbad\n");
+    write(out, b"\tbad\n");
     0
 }
 
-fn main() {
-    let a = run(b"", b"d41d8cd98f00b204e9800998ecf8427e");
-    let b = run(b"a", b"0cc175b9c0f1b6a831c399e269772661");
-    let c = run(b"abc", b"900150983cd24fb0d6963f7d28e17f72");
-    let d = run(b"message digest", b"f96b697d7cb7938d525a2f31aaf161d0");
+fn main(rt: HostRuntime) -> io::Result<()> {
+    let a = run(&rt, b"", b"d41d8cd98f00b204e9800998ecf8427e");
+    let b = run(&rt, b"a", b"0cc175b9c0f1b6a831c399e269772661");
+    let c = run(&rt, b"abc", b"900150983cd24fb0d6963f7d28e17f72");
+    let d = run(&rt, b"message digest", b"f96b697d7cb7938d525a2f31aaf161d0");
     let e = run(
+        &rt,
         b"abcdefghijklmnopqrstuvwxyz",
         b"c3fcd3d76192e4007dfb496cca67e13b",
     );
     let f = run(
+        &rt,
         b"ABCDEFGHIJKLMNOPQRSTUVWXYZabcdefghijklmnopqrstuvwxyz0123456789",
         b"d174ab98d277d9f5a5611c2c9f419d9f",
     );
     let g = run(
+        &rt,
         b"12345678901234567890123456789012345678901234567890123456789012345678901234567890",
         b"57edf4a22be3c955ac49da2e2107b67a",
     );
-    io::print_decimal(STDOUT_FILENO, a + b + c + d + e + f + g);
-    write(b" of 7 good\n");
+    let good = a + b + c + d + e + f + g;
+    println!(rt; "{good} of 7 good")
 }

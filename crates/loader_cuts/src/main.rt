@@ -5,19 +5,23 @@
 mod calls;
 mod cuts;
 
-use libc::STDIN_FILENO;
+use std::io;
 use tables::{Line, Row, field, part, past};
+
+// A table has fewer bytes.
+const TABLE: usize = 65536;
 
 // The most bytes of a field: the longest frame.
 const LONGEST_FIELD: usize = slip_framing::LONGEST_FRAME;
 
-fn run_row(line: &[u8], row: Row) {
+fn run_row(out: &impl Print, line: &[u8], row: Row) {
     let input = field(line, row.input, row.expected);
     let mut bytes = [0u8; LONGEST_FIELD];
     tables::decode(input, &mut bytes);
     let mut got = [0u8; 4];
     tables::put_word(cuts::agreeing(part(&bytes, 0, input.len() / 2)), &mut got);
     tables::show(
+        out,
         part(line, 0, row.operation),
         field(line, row.expected, line.len()),
         &got,
@@ -25,30 +29,31 @@ fn run_row(line: &[u8], row: Row) {
 }
 
 // A line of the table, with its line feed.
-fn run_line(line: &[u8]) {
+fn run_line(out: &impl Print, line: &[u8]) {
     match tables::line_of(line, b"cuts\t", LONGEST_FIELD) {
         Line::Comment => {}
-        Line::Row(_, row) => run_row(line, row),
+        Line::Row(_, row) => run_row(out, line, row),
         Line::Bad => {
-            tables::show(b"BAD LINE\t", field(line, 0, line.len()), b"");
+            tables::show(out, b"BAD LINE\t", field(line, 0, line.len()), b"");
         }
     }
 }
 
-fn run_table(text: &[u8]) {
+fn run_table(out: &impl Print, text: &[u8]) {
     let mut at: usize = 0;
     while at < text.len() {
         let next = past(text, at, b'\n');
-        run_line(part(text, at, next));
+        run_line(out, part(text, at, next));
         at = next;
     }
 }
 
-fn main() {
-    let mut text = io::large_buffer();
-    let n = io::read_full(STDIN_FILENO, &mut text);
+fn main(rt: HostRuntime) -> io::Result<()> {
+    let mut text = [0u8; TABLE];
+    let n = tables::read_full(&mut rt.stdin(), &mut text)?;
     if n == text.len() {
-        tables::show(b"", b"TABLE TOO LONG", b"");
+        tables::show(&rt, b"", b"TABLE TOO LONG", b"");
     }
-    run_table(part(&text, 0, n));
+    run_table(&rt, part(&text, 0, n));
+    Ok(())
 }

@@ -7,7 +7,7 @@ mod loads;
 mod names;
 mod plain;
 
-use libc::STDIN_FILENO;
+use std::io;
 use tables::{Line, Row, field, part, past};
 
 // A table has fewer bytes. A row of a long packet has more than 8,240 of them.
@@ -30,12 +30,13 @@ fn outcome(operation: u8, input: &[u8], got: &mut [u8]) -> usize {
     }
 }
 
-fn run_row(line: &[u8], operation: u8, row: Row, got: &mut [u8]) {
+fn run_row(out: &impl Print, line: &[u8], operation: u8, row: Row, got: &mut [u8]) {
     let input = field(line, row.input, row.expected);
     let mut buffer = [0u8; chip::LONGEST_FIELD];
     tables::decode(input, &mut buffer);
     let n = outcome(operation, part(&buffer, 0, input.len() / 2), got);
     tables::show(
+        out,
         part(line, 0, row.operation),
         field(line, row.expected, line.len()),
         part(got, 0, n),
@@ -43,23 +44,23 @@ fn run_row(line: &[u8], operation: u8, row: Row, got: &mut [u8]) {
 }
 
 // A line of the table, with its line feed.
-fn run_line(line: &[u8], got: &mut [u8]) {
+fn run_line(out: &impl Print, line: &[u8], got: &mut [u8]) {
     let names = names::NAMES;
     match tables::line_of(line, &names, chip::LONGEST_FIELD) {
         Line::Comment => {}
-        Line::Row(operation, row) => run_row(line, operation, row, got),
+        Line::Row(operation, row) => run_row(out, line, operation, row, got),
         Line::Bad => {
-            tables::show(b"BAD LINE\t", field(line, 0, line.len()), b"");
+            tables::show(out, b"BAD LINE\t", field(line, 0, line.len()), b"");
         }
     }
 }
 
-fn run_table(text: &[u8]) {
+fn run_table(out: &impl Print, text: &[u8]) {
     let mut got = [0u8; chip::GOT];
     let mut at: usize = 0;
     while at < text.len() {
         let next = past(text, at, b'\n');
-        run_line(part(text, at, next), &mut got);
+        run_line(out, part(text, at, next), &mut got);
         at = next;
     }
 }
@@ -68,11 +69,12 @@ fn buffer() -> [u8; TABLE] {
     [0u8; TABLE]
 }
 
-fn main() {
+fn main(rt: HostRuntime) -> io::Result<()> {
     let mut text = buffer();
-    let n = io::read_full(STDIN_FILENO, &mut text);
+    let n = tables::read_full(&mut rt.stdin(), &mut text)?;
     if n == text.len() {
-        tables::show(b"", b"TABLE TOO LONG", b"");
+        tables::show(&rt, b"", b"TABLE TOO LONG", b"");
     }
-    run_table(part(&text, 0, n));
+    run_table(&rt, part(&text, 0, n));
+    Ok(())
 }

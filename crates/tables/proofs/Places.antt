@@ -1,5 +1,5 @@
 -- Laws of the place behind a byte, for a loop that goes from the front and for those who go on from there.
-use Rattle.std.proofs.Common.{◌≡◌, ℕ, suc, ◌+◌, ◌<◌, ◌≤◌, Bool, true, false, cond, eqb, List, [], ◌∷◌, length, get_or, drop, sym, refl, ◌∙◌, add-zero, add-one, arith, length-drop, drop_of_length-le, drop-cons, eq-eqb, ne_eqb}
+use Rattle.std.proofs.Common.{◌≡◌, ℕ, suc, ◌+◌, ◌<◌, ◌≤◌, Bool, true, false, cond, eqb, List, [], ◌∷◌, length, get_or, drop, ◌∙◌, add-zero, add-one, arith, length-drop, drop_of_length-le, drop-cons, eq-eqb, ne_eqb}
 use Rattle.tables.specs.Fields.{up_to, past_of}
 
 module _ (s : List ℕ) (b i : ℕ) (h : i < length s) where

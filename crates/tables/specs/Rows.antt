@@ -3,7 +3,6 @@ use Rattle.std.specs.Prelude.{ℕ, zero, suc, ◌+◌, ◌-◌, ◌/◌, ◌%◌
 use Rattle.lists.specs.Bytes.{same_bytes}
 use Rattle.tables.specs.Fields.{part_of, past_of, row_of, tab}
 use Rattle.tables.specs.Hex.{is_hex}
-use Rattle.tables.specs.declared.Row.{Row}
 use Rattle.tables.specs.declared.Line.{Line}
 use Rattle.tables.specs.declared.Line.TheVariants.{Comment, Row as ARow, Bad}
 

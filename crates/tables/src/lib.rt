@@ -1,14 +1,15 @@
 // The text of a table of vectors: fields that a byte ends, bytes in hex, and the line of a vector.
 #![tactic(auto)]
 
-ghost use Rattle.std.specs.Prelude.{◌≡◌, ◌+◌, ◌-◌, ◌*◌, ◌/◌, ◌%◌, ◌<◌, ◌≤◌, false, [], ◌∷◌, length, if◌then◌else◌, nat_le};
+ghost use Rattle.std.specs.Prelude.{◌≡◌, ◌+◌, ◌-◌, ◌*◌, ◌/◌, ◌%◌, ◌<◌, ◌≤◌, false, IfOk, [], ◌∷◌, length, if◌then◌else◌, nat_le};
 ghost use Rattle.lists.specs.Lay.{lay, lay_if_fits};
 ghost use Rattle.lists.specs.Bytes.{same_bytes};
 ghost use Rattle.tables.specs.Fields.{part_of, past_of, row_of};
 ghost use Rattle.tables.specs.Rows.{number_of, line_of};
 ghost use Rattle.tables.specs.Hex.{is_digit, value_of, is_hex, all_digits, pair_at, bytes_in, unhex, hex_text, most_shown};
 
-use libc::STDOUT_FILENO;
+use std::io;
+use std::io::Read;
 
 pub const TAB: u8 = 9;
 
@@ -233,26 +234,46 @@ pub fn put_word(word: u32, dst: &mut [u8]) -> usize
 // The most bytes that are shown.
 pub const MOST_SHOWN: usize = 128;
 
+// Prints bytes. A program with vectors goes on where its output fails.
+fn write(out: &impl Print, text: &[u8]) {
+    let _ = out.write_all(text);
+}
+
 // Prints the line of a vector: its source and name, what was expected, as text in hex, and `ok`, or `WRONG` and what came. Whether it
 // came as expected; more than 128 bytes are not, and are not shown.
-pub fn show(head: &[u8], expected: &[u8], got: &[u8]) -> bool
+pub fn show(out: &impl Print, head: &[u8], expected: &[u8], got: &[u8]) -> bool
     ensures { result ≡ (if nat_le (length got.now) most_shown then same_bytes expected.now (hex_text got.now) else false) }
 {
-    io::write_all(STDOUT_FILENO, head);
-    io::write_all(STDOUT_FILENO, expected);
+    write(out, head);
+    write(out, expected);
     if MOST_SHOWN < got.len() {
-        io::write_all(STDOUT_FILENO, b"\tWRONG\ttoo long\n");
+        write(out, b"\tWRONG\ttoo long\n");
         return false;
     }
     let mut digits = [0u8; 2 * MOST_SHOWN];
     encode(got, &mut digits);
     let text = &digits[..2 * got.len()];
     if lists::same(expected, text) {
-        io::write_all(STDOUT_FILENO, b"\tok\n");
+        write(out, b"\tok\n");
         return true;
     }
-    io::write_all(STDOUT_FILENO, b"\tWRONG\t");
-    io::write_all(STDOUT_FILENO, text);
-    io::write_all(STDOUT_FILENO, b"\n");
+    write(out, b"\tWRONG\t");
+    write(out, text);
+    write(out, b"\n");
     false
+}
+
+// Reads a table until the buffer is full or the input ends; how many bytes it has.
+pub fn read_full(input: &mut impl Read, text: &mut [u8]) -> io::Result<usize>
+    ensures { IfOk result (λ n. n ≤ length text.new) }
+{
+    let mut done: usize = 0;
+    while done < text.len() {
+        let n = input.read(&mut text[done..])?;
+        if n == 0 {
+            break;
+        }
+        done += n;
+    }
+    Ok(done)
 }
