@@ -1,7 +1,6 @@
 -- A line fed to a fresh loader: call after call, each lent the buffers as the call before left them.
-use Rattle.std.specs.Prelude.{◌≡◌, List, [], ◌∷◌, ◌++◌, ℕ, take}
+use Rattle.std.specs.Prelude.{◌≡◌, List, [], ◌∷◌, ℕ, take}
 use Rattle.lists.specs.Checks.{first}
-use Rattle.slip_framing.specs.Frame.{framed}
 use Rattle.loader_state.specs.Refusals.{buffer_checks}
 use Rattle.loader_state.specs.Record.{fresh_loader}
 use Rattle.loader_run.specs.Step.{Step, buffer_lengths}

@@ -8,7 +8,6 @@ use native.Mathlib.Omega.{arith}
 use borrow.Author.Tests.{not-true, lt-leb}
 use lib.ListN.{get_or, take, drop, set}
 use lib.Dec.{leb, eqb, eqb-suc-zero}
-use Rattle.lists.specs.Checks.{first}
 use Rattle.lists.proofs.Tests.{absurd_test, both}
 use Rattle.fields.specs.Words.{word}
 use Rattle.link_frames.specs.Editions.{is_edition, most_control, power_on, power_off, first_edition, later_edition}
@@ -24,12 +23,11 @@ use Rattle.link_refusals.specs.Refusals.{checks, send_checks}
 use Rattle.link_state.specs.declared.Link.{Link}
 use Rattle.link_state.specs.declared.Phase.{Phase}
 use Rattle.link_state.specs.declared.Phase.TheVariants.{Start, Baud, Open}
-use Rattle.link_events.specs.Moves.{handed, Move, move, padded}
+use Rattle.link_events.specs.Moves.{Move, padded}
 use Rattle.link_events.specs.Turns.{quiet, answers, broken, pulled, listens}
 use Rattle.link_effects.specs.Whole.{baud_frame, status_frame, power_frame, control_frame, taken_data, open_frame}
 use Rattle.link.specs.Answers.{Step, done, refusing}
 use Rattle.link.specs.Hearing.{whole_frame, heard, received}
-use Rattle.link.specs.Step.{call}
 use Rattle.link_claims.specs.Calls.{Call, pull, byte, poll, send, tick_of, buffer_of, step, after}
 use Rattle.link_claims.proofs.Ways.{move_of, carried, step_is}
 use Rattle.link_claims.specs.Refusals.{table_of, refusal_of}

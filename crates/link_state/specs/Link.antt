@@ -1,5 +1,5 @@
 -- The link's record: what is held of the frame being received, and the records that the rules name.
-use Rattle.std.specs.Prelude.{ℕ, ◌+◌, ◌-◌, Bool, true, false, cond, List, ◌∷◌, take, set, replicate, ◌==◌, slice_set}
+use Rattle.std.specs.Prelude.{ℕ, ◌+◌, ◌-◌, Bool, true, false, cond, List, ◌∷◌, take, replicate, ◌==◌, slice_set}
 use Rattle.link_frames.specs.Frames.{most_contents}
 use Rattle.link_state.specs.declared.Link.{Link}
 use Rattle.link_state.specs.declared.Phase.{Phase}

@@ -1,7 +1,7 @@
 -- Block after block of a load that the sender does not refuse: each packet succeeds, and flash has the image's bytes so far; after the last one the image stands.
 use mathlib.Core.Path.{◌≡◌, refl, ◌∙◌}
 use mathlib.Core.List.{List, map}
-use Prim.Native.Nat.{ℕ, zero, suc, ◌+◌, ◌≤◌, ◌<◌}
+use Prim.Native.Nat.{ℕ, zero, suc, ◌+◌, ◌<◌}
 use native.Mathlib.Numerals.{add-one, add-three}
 use native.Mathlib.Omega.{arith}
 use lib.ListN.{length, take, length-append, length-replicate}
@@ -19,7 +19,6 @@ use Rattle.loader_history.proofs.Flash.{loaded_up_to, nothing_loaded, block_load
 use Rattle.loader_effects.specs.Core.{Core}
 use Rattle.loader_effects.specs.Handle.{handle}
 use Rattle.sender.specs.Load.{announces, packet_count}
-use Rattle.esp_requests.specs.Requests.{end_packet}
 use Rattle.sender.specs.Packets.{block_data, block_packet, packet_of}
 use Rattle.sender.specs.Line.{consecutive, packets_of}
 use Rattle.sender_claims.specs.Stands.{Stands}

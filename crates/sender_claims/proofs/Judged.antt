@@ -11,7 +11,6 @@ use Rattle.esp_commands.specs.Header.{command, shaped, sized}
 use Rattle.fields.specs.Words.{half}
 use Rattle.loader_sessions.specs.declared.Session.{Session}
 use Rattle.loader_errors.specs.Errors.{kind, plain_checks, checks, error_of}
-use Rattle.esp_begin.specs.Flash.{flash_length}
 use Rattle.esp_requests.specs.Requests.{request, begin_packet}
 use Rattle.sender.specs.Load.{announces, InWords}
 use Rattle.sender.specs.Sending.{load_checks, load_refusal}

@@ -1,4 +1,3 @@
-use borrow.Author.Rules.{rules}
 use Rattle.link_frames.specs.Writing.{Writes}
 use Rattle.link_events.specs.Moves.{sent}
 use Rattle.link.specs.Answers.{done}

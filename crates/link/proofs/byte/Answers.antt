@@ -1,6 +1,5 @@
 -- The number 0 says that the record is sound and the buffer wide enough.
 use mathlib.Core.Path.{sym, ap, ◌∙◌}
-use borrow.Author.Rules.{rules}
 use Rattle.link_state.specs.declared.Link.{Link}
 use Rattle.link_refusals.proofs.Sound.{checks_passed, checked-holder}
 use Rattle.link.specs.Hearing.{received}

@@ -17,7 +17,7 @@ pub slice_bounds-xor_from-end : goal.slice_bounds-xor_from-end
 slice_bounds-xor_from-end c = let frame_length : length c.args.link.frame ≡ 65 = search rules in
     let branch = c in
     let start = branch in
-        sym (length-take-le (start.args.link.held - 1) start.args.link.frame (omega (arith, (lacks_bounds _ _ _ _ (sym branch.lacks_sum.ensures ∙ branch.if-lacks_sum.true)).1)))
+    sym (length-take-le (start.args.link.held - 1) start.args.link.frame (omega (arith, (lacks_bounds _ _ _ _ (sym branch.lacks_sum.ensures ∙ branch.if-lacks_sum.true)).1)))
 
 pub returns-then-byte-xor_from : goal.returns-then-byte-xor_from
 returns-then-byte-xor_from c = let frame_length : length c.args.link.frame ≡ 65 = search rules in

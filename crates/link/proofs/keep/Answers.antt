@@ -1,6 +1,5 @@
 -- The first byte is the type; the others go into the holder.
 use borrow.Author.Tests.{eq-eqb, ne_eqb}
-use borrow.Author.Rules.{rules}
 use Rattle.link_state.specs.Link.{kept}
 use Rattle.link.proofs.keep.Goals as goal
 

@@ -1,5 +1,4 @@
 use mathlib.Core.Path.{sym, ◌∙◌}
-use borrow.Author.Rules.{rules}
 use Rattle.link_state.proofs.Cases.{cond-true, cond-false}
 use Rattle.link.specs.Hearing.{received}
 use Rattle.link.proofs.receive.Goals as goal

@@ -2,7 +2,6 @@
 use mathlib.Core.Path.{sym, ap, ◌∙◌}
 use mathlib.Core.Bool.{true}
 use native.Mathlib.Omega.{arith}
-use borrow.Author.Rules.{rules}
 use Rattle.link_frames.specs.Writing.{Writes}
 use Rattle.link_frames.specs.Frames.{data_frame}
 use Rattle.link_frames.proofs.Writing.{data_fits}

@@ -1,5 +1,4 @@
 use borrow.Author.Tests.{eq-eqb, ne_eqb}
-use borrow.Author.Rules.{rules}
 use Rattle.link_state.specs.Link.{in_open}
 use Rattle.link_events.specs.Moves.{padded}
 use Rattle.link_effects.specs.Whole.{baud_frame}

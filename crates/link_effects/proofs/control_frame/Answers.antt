@@ -1,5 +1,4 @@
 use borrow.Author.Tests.{ne_eqb}
-use borrow.Author.Rules.{rules}
 use Rattle.link_effects.specs.Whole.{control_frame}
 use Rattle.link_effects.proofs.control_frame.Goals as goal
 

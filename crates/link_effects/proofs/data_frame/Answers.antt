@@ -1,5 +1,4 @@
 use mathlib.Core.Path.{sym, ◌∙◌}
-use borrow.Author.Rules.{rules}
 use Rattle.link_state.proofs.Cases.{cond-true, cond-false}
 use Rattle.link_effects.specs.Whole.{taken_data}
 use Rattle.link_effects.proofs.data_frame.Goals as goal

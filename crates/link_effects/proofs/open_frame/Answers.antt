@@ -1,4 +1,3 @@
-use borrow.Author.Rules.{rules}
 use Rattle.lists.proofs.Laws.{tests}
 use Rattle.link_effects.specs.Whole.{open_frame}
 use Rattle.link_effects.proofs.open_frame.Goals as goal

@@ -1,6 +1,5 @@
 use mathlib.Core.Path.{◌≡◌, sym, ◌∙◌}
 use mathlib.Core.Bool.{true}
-use borrow.Author.Rules.{rules}
 use Rattle.link_frames.specs.Frames.{status}
 use Rattle.link_state.specs.declared.Link.{Link}
 use Rattle.link_state.proofs.Cases.{cond-true}

@@ -1,4 +1,3 @@
-use borrow.Author.Rules.{rules}
 use Rattle.link_events.specs.Moves.{padded}
 use Rattle.link_effects.specs.Whole.{status_frame}
 use Rattle.link_effects.proofs.status_frame.Goals as goal

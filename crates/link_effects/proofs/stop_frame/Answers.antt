@@ -1,5 +1,4 @@
 use mathlib.Core.Path.{sym, ◌∙◌}
-use borrow.Author.Rules.{rules}
 use Rattle.link_state.proofs.Cases.{cond-false}
 use Rattle.link_effects.proofs.stop_frame.Goals as goal
 

@@ -1,4 +1,3 @@
-use borrow.Author.Rules.{rules}
 use Rattle.link_state.specs.Link.{fresh}
 use Rattle.link_events.specs.Moves.{padded}
 use Rattle.link_events.proofs.break_off.Goals as goal

@@ -1,4 +1,3 @@
-use borrow.Author.Rules.{rules}
 use Rattle.link_events.specs.Turns.{listens}
 use Rattle.link_events.proofs.is_listening.Goals as goal
 

@@ -1,5 +1,4 @@
 use mathlib.Core.Path.{sym, ◌∙◌}
-use borrow.Author.Rules.{rules}
 use Rattle.link_state.specs.Link.{in_baud}
 use Rattle.link_events.proofs.Pulled.{pulled_waiting, pulled_ignored}
 use Rattle.link_events.proofs.pull_line.Goals as goal

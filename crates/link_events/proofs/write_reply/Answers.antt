@@ -1,4 +1,3 @@
-use borrow.Author.Rules.{rules}
 use Rattle.link_frames.proofs.Writing.{none_written}
 use Rattle.link_events.proofs.write_reply.Goals as goal
 

@@ -1,4 +1,3 @@
-use borrow.Author.Rules.{rules}
 use Rattle.link_frames.specs.Reading.{begins}
 use Rattle.link_frames.proofs.is_begun.Goals as goal
 

@@ -1,4 +1,3 @@
-use borrow.Author.Rules.{rules}
 use Rattle.link_frames.specs.Reading.{lacks_sum}
 use Rattle.link_frames.proofs.lacks_sum.Goals as goal
 

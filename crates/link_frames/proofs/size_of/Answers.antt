@@ -1,4 +1,3 @@
-use borrow.Author.Rules.{rules}
 use Rattle.lists.proofs.Laws.{tests}
 use Rattle.link_frames.specs.Frames.{size}
 use Rattle.link_frames.proofs.size_of.Goals as goal

@@ -1,4 +1,3 @@
-use borrow.Author.Rules.{rules}
 use Rattle.link_frames.proofs.Writing.{written, not_written}
 use Rattle.link_frames.proofs.write.Goals as goal
 

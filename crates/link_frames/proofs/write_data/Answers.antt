@@ -1,7 +1,6 @@
 -- Type, size, data and checksum are laid one behind the other.
 use native.Mathlib.Omega.{arith}
 use lib.ListN.{length, set, length-set}
-use borrow.Author.Rules.{rules}
 use Rattle.lists.proofs.Fits.{lay-fits}
 use Rattle.fields.specs.Checksum.{xored}
 use Rattle.link_frames.specs.Frames.{data_type}

@@ -1,4 +1,3 @@
-use borrow.Author.Rules.{rules}
 use Rattle.fields.specs.Checksum.{xored}
 use Rattle.link_frames.specs.Frames.{frame_of}
 use Rattle.link_frames.proofs.write_status.Goals as goal

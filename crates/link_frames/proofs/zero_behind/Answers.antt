@@ -1,6 +1,5 @@
 -- With nothing held the type byte is the first that has to be zero.
 use lib.Dec.{eqb}
-use borrow.Author.Rules.{rules}
 use Rattle.lists.specs.Bytes.{all_are}
 use Rattle.link_frames.proofs.Holder.{and-cond, drop_past}
 use Rattle.link_frames.proofs.zero_behind.Goals as goal

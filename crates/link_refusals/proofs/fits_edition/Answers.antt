@@ -2,7 +2,6 @@ use mathlib.Core.Path.{◌≡◌}
 use mathlib.Core.Bool.{Bool, true, false, not, ◌&&◌, ◌||◌}
 use Prim.Native.Nat.{ℕ}
 use lib.Dec.{eqb}
-use borrow.Author.Rules.{rules}
 use Rattle.link_frames.specs.Editions.{later_edition, is_edition}
 use Rattle.link_state.specs.Link.{by_phase}
 use Rattle.link_state.specs.declared.Phase.{Phase}

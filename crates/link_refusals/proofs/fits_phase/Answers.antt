@@ -1,4 +1,3 @@
-use borrow.Author.Rules.{rules}
 use Rattle.link_refusals.specs.Sound.{fits_phase}
 use Rattle.link_refusals.proofs.fits_phase.Goals as goal
 

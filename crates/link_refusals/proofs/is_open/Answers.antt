@@ -1,4 +1,3 @@
-use borrow.Author.Rules.{rules}
 use Rattle.link_refusals.proofs.is_open.Goals as goal
 
 pub returns-in-Start : goal.returns-in-Start

@@ -1,4 +1,3 @@
-use borrow.Author.Rules.{rules}
 use Rattle.link_refusals.specs.Sound.{sound}
 use Rattle.link_refusals.proofs.is_sound.Goals as goal
 

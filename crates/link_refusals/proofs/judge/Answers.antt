@@ -1,6 +1,5 @@
 use Rattle.lists.specs.Checks.{first}
 use Rattle.link_refusals.specs.Refusals.{checks}
-use borrow.Author.Rules.{rules}
 use Rattle.link_refusals.proofs.judge.Goals as goal
 
 pub returns : goal.returns

@@ -1,4 +1,3 @@
-use borrow.Author.Rules.{rules}
 use Rattle.link_refusals.proofs.judge_buffer.Goals as goal
 
 pub returns : goal.returns

@@ -1,7 +1,6 @@
 use mathlib.Core.Path.{refl}
 use Rattle.lists.specs.Checks.{first}
 use Rattle.link_refusals.specs.Refusals.{send_checks}
-use borrow.Author.Rules.{rules}
 use Rattle.link_refusals.proofs.judge_send.Goals as goal
 
 pub returns : goal.returns

@@ -1,5 +1,5 @@
 -- Lost to silence or not: the fresh record, or dead time as it still runs.
-use Rattle.std.proofs.Common.{◌≡◌, ℕ, true, sym, ◌∙◌, rules}
+use Rattle.std.proofs.Common.{◌≡◌, ℕ, true, sym, ◌∙◌}
 use Rattle.link_state.specs.Link.{fresh}
 use Rattle.link_state.specs.Silence.{lost, checked}
 use Rattle.link_state.specs.declared.Link.{Link}

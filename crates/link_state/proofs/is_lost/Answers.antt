@@ -1,4 +1,3 @@
-use Rattle.std.proofs.Common.{rules}
 use Rattle.link_state.specs.Silence.{lost}
 use Rattle.link_state.proofs.is_lost.Goals as goal
 

@@ -1,4 +1,4 @@
-use Rattle.std.proofs.Common.{◌≡◌, ℕ, Bool, cond, rules}
+use Rattle.std.proofs.Common.{◌≡◌, ℕ, Bool, cond}
 use Rattle.link_frames.specs.Editions.{is_edition}
 use Rattle.link_state.specs.Link.{fresh}
 use Rattle.link_state.specs.Opening.{unknown_edition, opening}

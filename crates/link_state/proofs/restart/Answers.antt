@@ -1,4 +1,3 @@
-use Rattle.std.proofs.Common.{rules}
 use Rattle.link_state.specs.Link.{fresh}
 use Rattle.link_state.proofs.restart.Goals as goal
 

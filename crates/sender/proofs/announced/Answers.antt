@@ -1,6 +1,5 @@
 use mathlib.Core.Path.{refl}
 use Rattle.sender.specs.Load.{announces}
-use borrow.Author.Rules.{rules}
 use Rattle.sender.proofs.announced.Goals as goal
 
 pub returns : goal.returns

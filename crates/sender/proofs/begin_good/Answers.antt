@@ -1,7 +1,6 @@
 use mathlib.Core.Path.{refl}
 use native.Mathlib.Omega.{arith}
 use Rattle.sender.proofs.Sizes.{past-size, past-offset, past-block}
-use borrow.Author.Rules.{rules}
 use Rattle.sender.proofs.begin_good.Goals as goal
 
 pub returns-then-flash-size : goal.returns-then-flash-size

@@ -3,7 +3,6 @@ use mathlib.Core.Bool.{true, false}
 use native.Mathlib.Omega.{arith}
 use lib.ListN.{length}
 use lib.Seq.{length-take-le}
-use borrow.Author.Rules.{rules}
 use Rattle.sender.specs.Sending.{counting}
 use Rattle.sender.proofs.Sending.{file_read, file_filled}
 use Rattle.sender.proofs.file_packet_count.Goals as goal

@@ -4,13 +4,11 @@ use native.Mathlib.Omega.{arith}
 use lib.ListN.{length}
 use Rattle.esp_begin.specs.Count.{count_of}
 use Rattle.esp_requests.specs.Requests.{begin_packet}
-use Rattle.sender.specs.Load.{announces}
 use Rattle.sender.specs.Packets.{block_packet}
 use Rattle.sender.proofs.Sizes.{accepted, sized, size_word, offset_word, block-word}
 use Rattle.sender.proofs.Numbered.{packet_0, packet_1, packet-block, packet-end}
 use Rattle.sender.proofs.Sending.{sent_as, load-refused, past_end, sent}
 use Rattle.sender.proofs.Parts.{announced-count, announced-block, has_block}
-use borrow.Author.Rules.{rules}
 use Rattle.sender.proofs.packet.Goals as goal
 
 pub returns-then-refused-ne0 : goal.returns-then-refused-ne0

@@ -3,7 +3,6 @@ use Rattle.sender.proofs.Sizes.{accepted, sized, size_word, block-word}
 use Rattle.sender.proofs.Sending.{count-refused, count-told}
 use mathlib.Core.Path.{sym}
 use native.Mathlib.Omega.{arith}
-use borrow.Author.Rules.{rules}
 use Rattle.sender.proofs.packet_count.Goals as goal
 
 pub returns-then-refused-ne0 : goal.returns-then-refused-ne0

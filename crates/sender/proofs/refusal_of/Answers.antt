@@ -2,7 +2,6 @@ use mathlib.Core.Path.{refl, sym, ◌∙◌}
 use Rattle.lists.specs.Checks.{first}
 use Rattle.sender.specs.Sending.{load_checks, load_refusal}
 use Rattle.sender.proofs.Sizes.{short}
-use borrow.Author.Rules.{rules}
 use Rattle.sender.proofs.refusal_of.Goals as goal
 
 pub begin_good-requires : goal.begin_good-requires

@@ -1,9 +1,7 @@
-use mathlib.Core.Path.{refl}
 use Rattle.slip_framing.proofs.Refusals.{framed_as}
 use native.Mathlib.Omega.{arith}
 use Rattle.esp_begin.proofs.Sectors.{reaches}
 use Rattle.sender.proofs.Parts.{block-is}
-use borrow.Author.Rules.{rules}
 use Rattle.sender.proofs.send_block.Goals as goal
 
 pub slice_bounds-block-count : goal.slice_bounds-block-count

@@ -1,7 +1,6 @@
 use mathlib.Core.Path.{◌≡◌, sym, ◌∙◌}
 use mathlib.Core.List.{[]}
 use mathlib.Core.Bool.{Bool, true, false}
-use borrow.Author.Rules.{rules}
 use Rattle.link_frames.specs.Frames.{status}
 use Rattle.link_state.specs.declared.Link.{Link}
 use Rattle.link_state.specs.Link.{with_power}

@@ -1,4 +1,3 @@
-use Rattle.std.proofs.Common.{rules}
 use Rattle.link_state.specs.Clock.{silence}
 use Rattle.link_state.proofs.clock.silent.Goals as goal
 

@@ -1,4 +1,3 @@
-use Rattle.std.proofs.Common.{rules}
 use Rattle.link_state.specs.Clock.{still_dead}
 use Rattle.link_state.proofs.clock.still_dead.Goals as goal
 
