@@ -1,5 +1,5 @@
 -- Laws of digits and of the bytes that pairs of them say.
-use Rattle.std.proofs.Common.{◌≡◌, ℕ, zero, suc, ◌+◌, ◌*◌, ◌/◌, ◌<◌, ◌≤◌, true, false, cond, List, length, get_or, take, drop, set, sym, refl, add-one, arith, length-append, drop_of_length-le, drop-cons, take_at}
+use Rattle.std.proofs.Common.{◌≡◌, ℕ, zero, suc, ◌+◌, ◌*◌, ◌/◌, ◌<◌, ◌≤◌, true, false, cond, List, length, get_or, take, drop, set, refl, add-one, arith, length-append, drop_of_length-le, drop-cons, take_at}
 use Rattle.lists.specs.Lay.{lay, lay_if_fits}
 use Rattle.lists.proofs.Fits.{lay-fits}
 use Rattle.lists.proofs.Laws.{lay-more, lay-lay, length-lay, set-set-lay}
