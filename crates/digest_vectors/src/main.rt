@@ -9,7 +9,7 @@ use std::io;
 // How many lower-case hex digits a digest has.
 const DIGITS: usize = 32;
 
-// The run goes on where its output fails.
+// The run goes on where its output fails, and its last line then ends it with the error.
 fn write(out: &impl Print, text: &[u8]) {
     let _ = out.write_all(text);
 }

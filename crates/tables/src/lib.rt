@@ -235,7 +235,7 @@ pub fn put_word(word: u32, dst: &mut [u8]) -> usize
 pub const MOST_SHOWN: usize = 128;
 
 // Prints the line of a vector: its source and name, what was expected, as text in hex, and `ok`, or `WRONG` and what came. Whether it
-// came as expected; more than 128 bytes are not, and are not shown.
+// came as expected; more than 128 bytes are not, and are not shown. An output that fails is an error.
 pub fn show(out: &impl Print, head: &[u8], expected: &[u8], got: &[u8]) -> io::Result<bool>
     ensures { IfOk result (λ ok. ok ≡ (if nat_le (length got.now) most_shown then same_bytes expected.now (hex_text got.now) else false)) }
 {
