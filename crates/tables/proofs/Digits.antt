@@ -1,5 +1,5 @@
 -- Laws of digits and of the bytes that pairs of them say.
-use Rattle.std.proofs.Common.{◌≡◌, ℕ, zero, suc, ◌+◌, ◌*◌, ◌/◌, ◌<◌, ◌≤◌, true, false, cond, List, length, get_or, take, drop, set, refl, add-one, arith, length-append, drop_of_length-le, drop-cons, take_at}
+use Rattle.std.proofs.Common.{◌≡◌, ℕ, zero, suc, ◌+◌, ◌*◌, ◌/◌, ◌<◌, ◌≤◌, true, false, cond, List, length, get_or, take, drop, set, refl, sym, add-one, arith, length-append, drop_of_length-le, drop-cons, take_at}
 use Rattle.lists.specs.Lay.{lay, lay_if_fits}
 use Rattle.lists.proofs.Fits.{lay-fits}
 use Rattle.lists.proofs.Laws.{lay-more, lay-lay, length-lay, set-set-lay}
@@ -77,3 +77,6 @@ module _ (d s after : List ℕ) (few : length s ≤ most_shown) (long : length d
   front =
       let n : length (hex_text s) ≡ 2 * length s = unfold hex_text in length_digits s (length s) in
       rw (e, lay-fits d 0 (hex_text s) (omega arith)) (take_at (hex_text s) _ (2 * length s) n)
+
+  pub front_length : 2 * length s ≡ length (take (2 * length s) after)
+  front_length = rw front (unfold hex_text in sym (length_digits s (length s)))
