@@ -22,7 +22,7 @@ fn run_row(
     operation: u8,
     row: Row,
     got: &mut [u8],
-) -> io::Result<Probe> {
+) -> Probe {
     let input = field(line, row.input, row.expected);
     let mut bytes = [0u8; MOST];
     tables::decode(input, &mut bytes);
@@ -33,40 +33,40 @@ fn run_row(
         part(line, 0, row.operation),
         field(line, row.expected, line.len()),
         part(&bytes, 0, n),
-    )?;
-    Ok(next)
+    );
+    next
 }
 
 // A line of the table, with its line feed.
-fn run_line(out: &impl Print, probe: Probe, line: &[u8], got: &mut [u8]) -> io::Result<Probe> {
+fn run_line(out: &impl Print, probe: Probe, line: &[u8], got: &mut [u8]) -> Probe {
     let names = names::NAMES;
     match tables::line_of(line, &names, MOST) {
-        Line::Comment => Ok(probe),
+        Line::Comment => probe,
         Line::Row(operation, row) => run_row(out, probe, line, operation, row, got),
         Line::Bad => {
-            tables::show(out, b"BAD LINE\t", field(line, 0, line.len()), b"")?;
-            Ok(probe)
+            tables::show(out, b"BAD LINE\t", field(line, 0, line.len()), b"");
+            probe
         }
     }
 }
 
-fn run_table(out: &impl Print, text: &[u8]) -> io::Result<()> {
+fn run_table(out: &impl Print, text: &[u8]) {
     let mut got = [0u8; MOST];
     let mut probe = probe::new();
     let mut at: usize = 0;
     while at < text.len() {
         let next = past(text, at, b'\n');
-        probe = run_line(out, probe, part(text, at, next), &mut got)?;
+        probe = run_line(out, probe, part(text, at, next), &mut got);
         at = next;
     }
-    Ok(())
 }
 
 fn main(rt: HostRuntime) -> io::Result<()> {
     let mut text = [0u8; TABLE];
     let n = tables::read_full(&mut rt.stdin(), &mut text)?;
     if n == text.len() {
-        tables::show(&rt, b"", b"TABLE TOO LONG", b"")?;
+        tables::show(&rt, b"", b"TABLE TOO LONG", b"");
     }
-    run_table(&rt, part(&text, 0, n))
+    run_table(&rt, part(&text, 0, n));
+    Ok(())
 }

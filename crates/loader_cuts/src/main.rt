@@ -14,7 +14,7 @@ const TABLE: usize = 65536;
 // The most bytes of a field: the longest frame.
 const LONGEST_FIELD: usize = slip_framing::LONGEST_FRAME;
 
-fn run_row(out: &impl Print, line: &[u8], row: Row) -> io::Result<()> {
+fn run_row(out: &impl Print, line: &[u8], row: Row) {
     let input = field(line, row.input, row.expected);
     let mut bytes = [0u8; LONGEST_FIELD];
     tables::decode(input, &mut bytes);
@@ -25,37 +25,35 @@ fn run_row(out: &impl Print, line: &[u8], row: Row) -> io::Result<()> {
         part(line, 0, row.operation),
         field(line, row.expected, line.len()),
         &got,
-    )?;
-    Ok(())
+    );
 }
 
 // A line of the table, with its line feed.
-fn run_line(out: &impl Print, line: &[u8]) -> io::Result<()> {
+fn run_line(out: &impl Print, line: &[u8]) {
     match tables::line_of(line, b"cuts\t", LONGEST_FIELD) {
-        Line::Comment => Ok(()),
+        Line::Comment => {},
         Line::Row(_, row) => run_row(out, line, row),
         Line::Bad => {
-            tables::show(out, b"BAD LINE\t", field(line, 0, line.len()), b"")?;
-            Ok(())
+            tables::show(out, b"BAD LINE\t", field(line, 0, line.len()), b"");
         }
     }
 }
 
-fn run_table(out: &impl Print, text: &[u8]) -> io::Result<()> {
+fn run_table(out: &impl Print, text: &[u8]) {
     let mut at: usize = 0;
     while at < text.len() {
         let next = past(text, at, b'\n');
-        run_line(out, part(text, at, next))?;
+        run_line(out, part(text, at, next));
         at = next;
     }
-    Ok(())
 }
 
 fn main(rt: HostRuntime) -> io::Result<()> {
     let mut text = [0u8; TABLE];
     let n = tables::read_full(&mut rt.stdin(), &mut text)?;
     if n == text.len() {
-        tables::show(&rt, b"", b"TABLE TOO LONG", b"")?;
+        tables::show(&rt, b"", b"TABLE TOO LONG", b"");
     }
-    run_table(&rt, part(&text, 0, n))
+    run_table(&rt, part(&text, 0, n));
+    Ok(())
 }

@@ -109,8 +109,8 @@ fn carry_out(
     flash: &mut [u8],
     words: &mut [u32],
 ) -> Done
-    requires { (error_of (record { flash = length flash.now; words = length words.old }) session packet.now ≡ 0)
-        × (session_good (record { flash = length flash.now; words = length words.old }) session ≡ true) }
+    requires { (error_of (record { flash = length flash.old; words = length words.old }) session packet.now ≡ 0)
+        × (session_good (record { flash = length flash.old; words = length words.old }) session ≡ true) }
     ensures { Does
         (carried_out (record { session = session; attach = attach; flash = flash.old; words = words.old })
         packet.now)

@@ -30,13 +30,7 @@ fn outcome(operation: u8, input: &[u8], got: &mut [u8]) -> usize {
     }
 }
 
-fn run_row(
-    out: &impl Print,
-    line: &[u8],
-    operation: u8,
-    row: Row,
-    got: &mut [u8],
-) -> io::Result<()> {
+fn run_row(out: &impl Print, line: &[u8], operation: u8, row: Row, got: &mut [u8]) {
     let input = field(line, row.input, row.expected);
     let mut buffer = [0u8; chip::LONGEST_FIELD];
     tables::decode(input, &mut buffer);
@@ -46,32 +40,29 @@ fn run_row(
         part(line, 0, row.operation),
         field(line, row.expected, line.len()),
         part(got, 0, n),
-    )?;
-    Ok(())
+    );
 }
 
 // A line of the table, with its line feed.
-fn run_line(out: &impl Print, line: &[u8], got: &mut [u8]) -> io::Result<()> {
+fn run_line(out: &impl Print, line: &[u8], got: &mut [u8]) {
     let names = names::NAMES;
     match tables::line_of(line, &names, chip::LONGEST_FIELD) {
-        Line::Comment => Ok(()),
+        Line::Comment => {},
         Line::Row(operation, row) => run_row(out, line, operation, row, got),
         Line::Bad => {
-            tables::show(out, b"BAD LINE\t", field(line, 0, line.len()), b"")?;
-            Ok(())
+            tables::show(out, b"BAD LINE\t", field(line, 0, line.len()), b"");
         }
     }
 }
 
-fn run_table(out: &impl Print, text: &[u8]) -> io::Result<()> {
+fn run_table(out: &impl Print, text: &[u8]) {
     let mut got = [0u8; chip::GOT];
     let mut at: usize = 0;
     while at < text.len() {
         let next = past(text, at, b'\n');
-        run_line(out, part(text, at, next), &mut got)?;
+        run_line(out, part(text, at, next), &mut got);
         at = next;
     }
-    Ok(())
 }
 
 fn buffer() -> [u8; TABLE] {
@@ -82,7 +73,8 @@ fn main(rt: HostRuntime) -> io::Result<()> {
     let mut text = buffer();
     let n = tables::read_full(&mut rt.stdin(), &mut text)?;
     if n == text.len() {
-        tables::show(&rt, b"", b"TABLE TOO LONG", b"")?;
+        tables::show(&rt, b"", b"TABLE TOO LONG", b"");
     }
-    run_table(&rt, part(&text, 0, n))
+    run_table(&rt, part(&text, 0, n));
+    Ok(())
 }
