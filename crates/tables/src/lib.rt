@@ -1,7 +1,8 @@
 // The text of a table of vectors: fields that a byte ends, bytes in hex, and the line of a vector.
 #![tactic(auto)]
 
-ghost use Rattle.std.specs.Prelude.{◌≡◌, ◌+◌, ◌-◌, ◌*◌, ◌/◌, ◌%◌, ◌<◌, ◌≤◌, false, IfOk, [], ◌∷◌, length, if◌then◌else◌, nat_le};
+ghost use Rattle.std.specs.Prelude.{◌≡◌, ◌+◌, ◌-◌, ◌*◌, ◌/◌, ◌%◌, ◌<◌, ◌≤◌, false, IfOk, [], ◌∷◌, length, take, if◌then◌else◌, nat_le};
+ghost use Rattle.std.specs.Io.KnownBytes.{Consumes, IsAtEnd};
 ghost use Rattle.lists.specs.Lay.{lay, lay_if_fits};
 ghost use Rattle.lists.specs.Bytes.{same_bytes};
 ghost use Rattle.tables.specs.Fields.{part_of, past_of, row_of};
@@ -263,9 +264,11 @@ pub fn show(out: &impl Print, head: &[u8], expected: &[u8], got: &[u8]) -> bool
     false
 }
 
-// Reads a table until the buffer is full or the input ends; how many bytes it has.
-pub fn read_full(input: &mut impl Read, text: &mut [u8]) -> io::Result<usize>
-    ensures { IfOk result (λ n. n ≤ length text.new) }
+// Reads a table until the buffer is full or the input ends; how many bytes it has. They are the input's next ones, where these are known.
+pub fn read_full<R: Read>(input: &mut R, text: &mut [u8]) -> io::Result<usize>
+    ensures within { IfOk result (λ n. n ≤ length text.new) }
+    ensures taken { IfOk result (λ n. Consumes (R.remaining input.old) (R.remaining input.new) (take n text.new)) }
+    ensures ended { IfOk result (λ n. n < length text.new → IsAtEnd (R.remaining input.new)) }
 {
     let mut done: usize = 0;
     while done < text.len() {
