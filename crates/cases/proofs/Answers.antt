@@ -12,8 +12,7 @@ use Rattle.slip_unframing.specs.Line.{step_of}
 use Rattle.slip_unframing.specs.Line.{fresh}
 use Rattle.loader_notes.specs.Notes.{Order}
 use Rattle.loader_effects.specs.Handle.{replied, handle}
-use Rattle.loader_answers.specs.Answer.{answer_bytes}
-use Rattle.loader_answers.specs.declared.Body.{Body}
+use Rattle.loader_answers.specs.Answer.{Body, answer_bytes}
 use Rattle.loader_act.specs.Told.{taken}
 use Rattle.loader_run.specs.Step.{answer_buffer, told_of}
 use Rattle.cases.specs.Feeding.{Lending, begun, sent_count, sends}

@@ -29,7 +29,8 @@ use Rattle.slip_packets.proofs.Runs.{escaped_leads}
 use Rattle.loader_sessions.specs.Session.{session_good}
 use Rattle.loader_effects.specs.Core.{Core}
 use Rattle.loader_effects.specs.Handle.{Handled, handle}
-use Rattle.loader_state.specs.Refusals.{BufferLengths, buffer_checks, record_good, refusal}
+use Rattle.loader_state.specs.declared.BufferLengths.{BufferLengths}
+use Rattle.loader_state.specs.Refusals.{buffer_checks, record_good, refusal}
 use Rattle.loader_state.specs.Record.{fresh_loader}
 use Rattle.loader_run.specs.Step.{Step, after_packet, after_byte, buffer_lengths, answer_buffer, told_of}
 use Rattle.loader_act.specs.Told.{Told, taken}

@@ -17,7 +17,8 @@ use Rattle.loader_notes.specs.Notes.{no_order}
 use Rattle.loader_sessions.specs.Session.{session_good}
 use Rattle.loader_effects.specs.Effects.{effect}
 use Rattle.loader_effects.specs.Handle.{carried_out, failed, handle}
-use Rattle.loader_state.specs.Refusals.{BufferLengths, lengths_of, buffer_checks, record_good, refusal}
+use Rattle.loader_state.specs.declared.BufferLengths.{BufferLengths}
+use Rattle.loader_state.specs.Refusals.{lengths_of, buffer_checks, record_good, refusal}
 use Rattle.cases.specs.Packets.{attach_packet}
 use Rattle.cases.specs.Pins.{holding, PinCases}
 use Rattle.cases.proofs.Answers.{answered_with}

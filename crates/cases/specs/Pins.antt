@@ -4,7 +4,8 @@ use Rattle.lists.specs.Checks.{first}
 use Rattle.slip_framing.specs.Frame.{framed}
 use Rattle.pins.specs.Packer.{refused, packing_of}
 use Rattle.loader_state.specs.Record.{fresh_loader}
-use Rattle.loader_state.specs.Refusals.{BufferLengths, buffer_checks, refusal}
+use Rattle.loader_state.specs.declared.BufferLengths.{BufferLengths}
+use Rattle.loader_state.specs.Refusals.{buffer_checks, refusal}
 use Rattle.loader_state.specs.declared.Loader.{Loader}
 use Rattle.cases.specs.Feeding.{Lending, sends}
 use Rattle.cases.specs.Packets.{attach_packet}

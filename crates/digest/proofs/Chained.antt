@@ -40,17 +40,15 @@ module _ (r : Registers) (s : List ℕ) where
   unfolding chained blocks_of
   chained-none h = let e : length s / 64 ≡ 0 = omega arith in rw e
 
-module _ {g : Registers} (q : Registers) (s : List ℕ) (i : ℕ) (e : chained q (drop i s) ≡ g) where
+module _ {g : Registers} (q : Registers) (s : List ℕ) (e : chained q s ≡ g) where
   -- a turn of the loop that goes over the blocks of s
-  pub chained_more : {q' : Registers} {t x : List ℕ} → i + 64 ≤ length s → t ≡ sines → x ≡ words_of (take (i + 64 - i) (drop i s))
-      → q' ≡ block_of t q x → chained q' (drop (i + 64) s) ≡ g
-  chained_more h et ex eq =
-      let k : i + 64 - i ≡ 64 = omega arith in
-      rw (eq, et, ex, k, ← (drop-drop 64 i s), ← (chained-next q (drop i s) (rw (length-drop i s) (omega arith)))) e
+  pub chained_more : {q' : Registers} {t x b u : List ℕ} → 64 ≤ length s → t ≡ sines → b ≡ take 64 s → u ≡ drop 64 s → x ≡ words_of b
+      → q' ≡ block_of t q x → chained q' u ≡ g
+  chained_more h et eb eu ex eq = rw (eq, et, ex, eb, eu, ← (chained-next q s h)) e
 
   -- its end
-  pub chained-end : length s < i + 64 → q ≡ g
-  chained-end h = sym (chained-none q (drop i s) (rw (length-drop i s) (omega arith))) ∙ e
+  pub chained-end : length s < 64 → q ≡ g
+  chained-end h = sym (chained-none q s h) ∙ e
 
 -- the whole blocks of a message, and then its tail
 pub chained-tail : (r : Registers) (m : List ℕ) → chained (chained r m) (tail_of m) ≡ chained r (padded m)

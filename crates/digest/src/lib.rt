@@ -21,25 +21,19 @@ pub type DigestBytes = [u8; 16];
 fn from(s: &[u8], at: usize) -> &[u8]
     ensures { result.now ≡ drop at s.now }
 {
-    if s.len() <= at {
-        return &s[..0];
-    }
-    &s[at..]
+    &s[at.min(s.len())..]
 }
 
 // The first `n` bytes; all where there are fewer.
 fn first(s: &[u8], n: usize) -> &[u8]
     ensures { result.now ≡ take n s.now }
 {
-    if s.len() <= n {
-        return &s[..];
-    }
-    &s[..n]
+    &s[..n.min(s.len())]
 }
 
 // Padding
 
-// Two words as bytes, the low-order byte of each first.
+// Two words as bytes, the low-order byte of each first. Not u64::to_le_bytes, which divides in 64 bits (docs/wide-operations).
 fn two_words(x: u32, y: u32) -> [u8; 8]
     ensures { result ≡ bytes_of x ++ bytes_of y }
 {
@@ -48,7 +42,7 @@ fn two_words(x: u32, y: u32) -> [u8; 8]
     [a[0], a[1], a[2], a[3], b[0], b[1], b[2], b[3]]
 }
 
-// The low-order word of a number.
+// The low-order word of a number. Masked, since a cast may lose no bits.
 fn low_word(x: usize) -> u32
     ensures { result ≡ x % 2 ^ 32 }
 {
@@ -63,7 +57,7 @@ fn length_bytes(n: usize) -> [u8; 8]
     two_words(low_word(bits), (bits >> 32) as u32)
 }
 
-// How many of n bytes stand behind the last whole block.
+// How many of n bytes stand behind the last whole block. A mask: `%` would divide in 64 bits (docs/wide-operations).
 fn rest(n: usize) -> usize
     ensures { result ≡ n % 64 }
 {
@@ -77,7 +71,7 @@ fn tail_size(n: usize) -> usize
     if rest(n) < 56 { 64 } else { 128 }
 }
 
-// The tail of the padded message, at the front of two blocks; what stands behind it is not used.
+// The tail of the padded message, at the front of two blocks, of which `tail_size` tells how many bytes it has: there is no heap.
 fn tail(m: &[u8]) -> [u8; 128]
     ensures { take (tail_size (length m.now)) result ≡ tail_of m.now }
 {
@@ -105,31 +99,28 @@ fn start() -> Registers
     }
 }
 
-// The sixteen words of a block.
+// The sixteen words of a block. Places are shifted, since `4 * k` is a product of 64 bits.
 fn words(s: &[u8]) -> BlockWords
     ensures { result ≡ words_of s.now }
 {
-    let mut x = [0u32; 16];
-    let mut k: usize = 0;
-    while k < 16 {
-        x[k] = word_at(s, (4 * k as u32) as usize);
-        k += 1;
+    let mut x = [0; 16];
+    for (k, word) in x.iter_mut().enumerate() {
+        *word = word_at(s, k << 2);
     }
     x
 }
 
-// The registers after all whole blocks of `s`. `t` is the table T.
+// The registers after all whole blocks of `s`. `t` is the table T. Not by chunks_exact, which divides in 64 bits (docs/wide-operations).
 fn chain(r: Registers, s: &[u8], t: &Sines) -> Registers
     requires { t.now ≡ sines }
     ensures { result ≡ chained r s.now }
 {
     let mut q = r;
-    let mut i: usize = 0;
-    while 64 <= s.len() - i {
-        let next = i + 64;
-        let x = words(&s[i..next]);
-        q = digest_block::block(q, &x, t);
-        i = next;
+    let mut left = s;
+    while 64 <= left.len() {
+        let (block, behind) = left.split_at(64);
+        q = digest_block::block(q, &words(block), t);
+        left = behind;
     }
     q
 }

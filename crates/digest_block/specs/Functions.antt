@@ -1,5 +1,7 @@
 -- RFC 1321, 3.4: "four auxiliary functions that each take as input three 32-bit words and produce as output one 32-bit word."
 use Rattle.std.specs.Prelude.{ℕ, zero, suc, bit_and, bit_or, bit_xor}
+use Rattle.digest_block.specs.declared.Function.{Function}
+use Rattle.digest_block.specs.declared.Function.TheVariants.{F, G, H, I}
 use Rattle.digest_block.specs.Words.{complement}
 
 -- "F(X,Y,Z) = XY v not(X) Z"
@@ -24,6 +26,13 @@ of_round zero p q r s = p
 of_round (suc zero) p q r s = q
 of_round (suc (suc zero)) p q r s = r
 of_round (suc (suc (suc n))) p q r s = s
+
+-- the round of a function of the code
+abbrev pub number : Function → ℕ
+number F = 0
+number G = 1
+number H = 2
+number I = 3
 
 -- the function of a round
 unfoldable pub mixed : ℕ → ℕ → ℕ → ℕ → ℕ

@@ -37,3 +37,7 @@ place_of n j = slice_index places (16 * n + j)
 -- the s of operation c of each four of round n
 unfoldable pub shift_of : ℕ → ℕ → ℕ
 shift_of n c = slice_index shifts (4 * n + c)
+
+-- the s of each four operations of round n
+abbrev pub shifts_of : ℕ → List ℕ
+shifts_of n = shift_of n 0 ∷ shift_of n 1 ∷ shift_of n 2 ∷ shift_of n 3 ∷ []

@@ -1,13 +1,10 @@
 // A block of sixteen words, mixed into the four registers as RFC 1321, 3.4, says.
 #![tactic(auto)]
 
-ghost use Rattle.std.specs.Prelude.{◌≡◌, ◌<◌, ◌≤◌};
-ghost use Rattle.digest_block.specs.Words.{rotated};
-ghost use Rattle.digest_block.specs.Functions.{mixed};
-ghost use Rattle.digest_block.specs.Tables.{sines, place_of, shift_of};
+ghost use Rattle.std.specs.Prelude.{◌≡◌, ◌+◌, ◌*◌, ◌<◌, ◌≤◌, ◌%◌};
+ghost use Rattle.digest_block.specs.Functions.{number, mixed};
+ghost use Rattle.digest_block.specs.Tables.{sines, place_of, shifts_of};
 ghost use Rattle.digest_block.specs.Rounds.{operation_of, four_of, round_of, rounds_of, block_of};
-
-use std::num::wrapping_add_u32;
 
 // The registers A, B, C and D.
 #[derive(Clone, Copy)]
@@ -43,107 +40,119 @@ pub fn table() -> Sines
     T
 }
 
-// The k of operation `j` of round `n`.
-fn place(n: u32, j: u32) -> u32
-    requires { (n < 4) × (j < 16) }
-    ensures { (result ≡ place_of n j) × (result < 16) }
+// The function of a round, by which the round is named here.
+#[derive(Clone, Copy)]
+enum Function {
+    F,
+    G,
+    H,
+    I,
+}
+
+// The k of operation `j` of a round.
+fn place(function: Function, j: u32) -> u32
+    requires { j < 16 }
+    ensures { (result ≡ place_of (number function) j) × (result < 16) }
 {
-    match n {
-        0 => j,
-        1 => (5 * j + 1) % 16,
-        2 => (3 * j + 5) % 16,
-        _ => 7 * j % 16,
+    match function {
+        Function::F => j,
+        Function::G => (5 * j + 1) % 16,
+        Function::H => (3 * j + 5) % 16,
+        Function::I => 7 * j % 16,
     }
 }
 
-// The function of round `n`: F, G, H or I.
-fn mix(n: u32, x: u32, y: u32, z: u32) -> u32
-    requires { n < 4 }
-    ensures { result ≡ mixed n x y z }
+// The place in the table of operation `j` of a round.
+fn entry(function: Function, j: u32) -> u32
+    requires { j < 16 }
+    ensures { (result ≡ 16 * number function + j) × (result < 64) }
 {
-    match n {
-        0 => (x & y) | (!x & z),
-        1 => (x & z) | (y & !z),
-        2 => x ^ y ^ z,
-        _ => y ^ (x | !z),
+    match function {
+        Function::F => j,
+        Function::G => 16 + j,
+        Function::H => 32 + j,
+        Function::I => 48 + j,
     }
 }
 
-// `x` rotated left by `s` bits.
-fn rotate(x: u32, s: u32) -> u32
-    requires { (0 < s) × (s < 32) }
-    ensures { result ≡ rotated x s }
+// The rotations of each four operations of a round.
+fn rotations(function: Function) -> [u32; 4]
+    ensures { result ≡ shifts_of (number function) }
 {
-    (x << s) | (x >> (32 - s))
+    match function {
+        Function::F => [7, 12, 17, 22],
+        Function::G => [5, 9, 14, 20],
+        Function::H => [4, 11, 16, 23],
+        Function::I => [6, 10, 15, 21],
+    }
 }
 
-// Operation `j` of round `n`, with its rotation.
-fn operation(r: Registers, n: u32, j: u32, x: &BlockWords, t: &Sines, s: u32) -> Registers
-    requires { (n < 4) × (j < 16) × ((0 < s) × (s < 32)) }
-    ensures { result ≡ operation_of t.now n j s r x.now }
+// The function itself.
+fn mix(function: Function, x: u32, y: u32, z: u32) -> u32
+    ensures { result ≡ mixed (number function) x y z }
 {
-    let k = place(n, j) as usize;
-    let f = wrapping_add_u32(r.a, mix(n, r.b, r.c, r.d));
-    let v = wrapping_add_u32(wrapping_add_u32(f, x[k]), t[(16 * n + j) as usize]);
-    let b = wrapping_add_u32(r.b, rotate(v, s));
+    match function {
+        Function::F => (x & y) | (!x & z),
+        Function::G => (x & z) | (y & !z),
+        Function::H => x ^ y ^ z,
+        Function::I => y ^ (x | !z),
+    }
+}
+
+// Operation `j` of a round, with its rotation. The parameters are those of the RFC's line `[abcd k s i]`, block and table beside them.
+fn operation(
+    r: Registers,
+    function: Function,
+    j: u32,
+    x: &BlockWords,
+    t: &Sines,
+    s: u32,
+) -> Registers
+    requires { (j < 16) × ((0 < s) × (s < 32)) }
+    ensures { result ≡ operation_of t.now (number function) j s r x.now }
+{
+    let k = place(function, j) as usize;
+    let i = entry(function, j) as usize;
+    let f = r.a.wrapping_add(mix(function, r.b, r.c, r.d));
+    let v = f.wrapping_add(x[k]).wrapping_add(t[i]);
     Registers {
         a: r.d,
-        b,
+        b: r.b.wrapping_add(v.rotate_left(s)),
         c: r.b,
         d: r.c,
     }
 }
 
-// Four operations of round `n`, from operation `j` on, with the round's rotations. These are handed down as literals, so that each round
-// is compiled to rotations by constants.
-fn four(
-    r: Registers,
-    n: u32,
-    j: u32,
-    x: &BlockWords,
-    t: &Sines,
-    s0: u32,
-    s1: u32,
-    s2: u32,
-    s3: u32,
-) -> Registers
-    requires { (n < 4) × (j ≤ 12) × (s0 ≡ shift_of n 0) × (s1 ≡ shift_of n 1) × (s2 ≡ shift_of n 2) × (s3 ≡ shift_of n 3) }
-    ensures { result ≡ four_of t.now n j r x.now }
+// Four operations of a round, from operation `j` on. Block and table are lent, so they are no fields of the registers.
+fn four(r: Registers, function: Function, j: u32, x: &BlockWords, t: &Sines) -> Registers
+    requires { j ≤ 12 }
+    ensures { result ≡ four_of t.now (number function) j r x.now }
 {
-    let e = operation(r, n, j, x, t, s0);
-    let f = operation(e, n, j + 1, x, t, s1);
-    let g = operation(f, n, j + 2, x, t, s2);
-    operation(g, n, j + 3, x, t, s3)
+    let [s0, s1, s2, s3] = rotations(function);
+    let e = operation(r, function, j, x, t, s0);
+    let f = operation(e, function, j + 1, x, t, s1);
+    let g = operation(f, function, j + 2, x, t, s2);
+    operation(g, function, j + 3, x, t, s3)
 }
 
-// Round `n`.
-fn round(
-    r: Registers,
-    n: u32,
-    x: &BlockWords,
-    t: &Sines,
-    s0: u32,
-    s1: u32,
-    s2: u32,
-    s3: u32,
-) -> Registers
-    requires { (n < 4) × (s0 ≡ shift_of n 0) × (s1 ≡ shift_of n 1) × (s2 ≡ shift_of n 2) × (s3 ≡ shift_of n 3) }
-    ensures { result ≡ round_of t.now n r x.now }
+// A round. Its function is handed down as a literal, so that each round is compiled to rotations by constants.
+fn round(r: Registers, function: Function, x: &BlockWords, t: &Sines) -> Registers
+    ensures { result ≡ round_of t.now (number function) r x.now }
 {
-    let e = four(r, n, 0, x, t, s0, s1, s2, s3);
-    let f = four(e, n, 4, x, t, s0, s1, s2, s3);
-    let g = four(f, n, 8, x, t, s0, s1, s2, s3);
-    four(g, n, 12, x, t, s0, s1, s2, s3)
+    let e = four(r, function, 0, x, t);
+    let f = four(e, function, 4, x, t);
+    let g = four(f, function, 8, x, t);
+    four(g, function, 12, x, t)
 }
 
 // The four rounds.
 fn rounds(r: Registers, x: &BlockWords, t: &Sines) -> Registers
     ensures { result ≡ rounds_of t.now r x.now }
 {
-    let e = round(r, 0, x, t, 7, 12, 17, 22);
-    let f = round(e, 1, x, t, 5, 9, 14, 20);
-    let g = round(f, 2, x, t, 4, 11, 16, 23);
-    round(g, 3, x, t, 6, 10, 15, 21)
+    let e = round(r, Function::F, x, t);
+    let f = round(e, Function::G, x, t);
+    let g = round(f, Function::H, x, t);
+    round(g, Function::I, x, t)
 }
 
 // A block of sixteen words: the registers after the four rounds, each increased by what it had. The table is lent, and so laid out
@@ -153,9 +162,9 @@ pub fn block(r: Registers, x: &BlockWords, t: &Sines) -> Registers
 {
     let h = rounds(r, x, t);
     Registers {
-        a: wrapping_add_u32(h.a, r.a),
-        b: wrapping_add_u32(h.b, r.b),
-        c: wrapping_add_u32(h.c, r.c),
-        d: wrapping_add_u32(h.d, r.d),
+        a: h.a.wrapping_add(r.a),
+        b: h.b.wrapping_add(r.b),
+        c: h.c.wrapping_add(r.c),
+        d: h.d.wrapping_add(r.d),
     }
 }

@@ -14,7 +14,7 @@ fn hex_digit(d: u8) -> u8
     if d < 10 { b'0' + d } else { b'A' + (d - 10) }
 }
 
-// A byte as two hexadecimal digits, in upper case.
+// A byte as two hexadecimal digits, in upper case. The kit's hex writes these to the heap alone.
 pub fn hex(byte: u8) -> HexDigits
     ensures { result ≡ hex2 byte }
 {

@@ -28,55 +28,64 @@ fn fields_of(word: u32) -> Pins
 }
 
 // Words 0 and 1 hold no pins: they mean the default pins and HSPI.
+#[tactic(auto, unfolding(crate::specs::Pins::no_pins))]
 fn no_pins(word: u32) -> bool
     ensures { result ≡ no_pins word }
 {
-    (word == 0) | (word == 1)
+    word == 0 || word == 1
 }
 
 // Whether a word holds five fields that say pins, and nothing above them.
+#[tactic(auto, unfolding(crate::specs::Pins::fields_good))]
 fn fields_good(word: u32) -> bool
     ensures { result ≡ fields_good word }
 {
     let fields = fields_of(word);
-    (word < 0x4000_0000)
-        & ((fields.hd <= 31)
-            & ((fields.q <= 31) & ((fields.d <= 31) & ((fields.cs <= 31) & (fields.clk <= 31)))))
+    word < 0x4000_0000
+        && fields.hd <= 31
+        && fields.q <= 31
+        && fields.d <= 31
+        && fields.cs <= 31
+        && fields.clk <= 31
 }
 
 // Whether two of the five are equal: the ten pairs.
+#[tactic(auto, unfolding(crate::specs::Pins::two_equal))]
 pub fn two_equal(pins: Pins) -> bool
     ensures { result ≡ two_equal pins }
 {
-    (pins.hd == pins.q)
-        | (pins.hd == pins.d)
-        | (pins.hd == pins.cs)
-        | (pins.hd == pins.clk)
-        | (pins.q == pins.d)
-        | (pins.q == pins.cs)
-        | (pins.q == pins.clk)
-        | (pins.d == pins.cs)
-        | (pins.d == pins.clk)
-        | (pins.cs == pins.clk)
+    pins.hd == pins.q
+        || pins.hd == pins.d
+        || pins.hd == pins.cs
+        || pins.hd == pins.clk
+        || pins.q == pins.d
+        || pins.q == pins.cs
+        || pins.q == pins.clk
+        || pins.d == pins.cs
+        || pins.d == pins.clk
+        || pins.cs == pins.clk
 }
 
 // Whether a word keeps SPI_ATTACH's rule under 0xC5.
+#[tactic(auto, unfolding(crate::specs::Pins::attach_rule))]
 pub fn attach_ruled(word: u32) -> bool
     ensures { result ≡ attach_rule word }
 {
-    no_pins(word) | fields_good(word)
+    no_pins(word) || fields_good(word)
 }
 
 // Whether a word gives no two lines the same pin, as 0xC7 asks.
+#[tactic(auto, unfolding(crate::specs::Pins::attach_apart))]
 pub fn attach_apart(word: u32) -> bool
     ensures { result ≡ attach_apart word }
 {
-    no_pins(word) | !two_equal(fields_of(word))
+    no_pins(word) || !two_equal(fields_of(word))
 }
 
 // Whether SPI_ATTACH takes a word.
+#[tactic(auto, unfolding(crate::specs::Pins::attach_good))]
 pub fn attach_good(word: u32) -> bool
     ensures { result ≡ attach_good word }
 {
-    attach_ruled(word) & attach_apart(word)
+    attach_ruled(word) && attach_apart(word)
 }

@@ -46,7 +46,7 @@ pub const LARGEST_BLOCK: u32 = 4096;
 pub fn round_up(x: u32) -> u64
     ensures { result ≡ round_up x }
 {
-    x as u64 + ((SECTOR - x % SECTOR) % SECTOR) as u64
+    u64::from(x) + u64::from((SECTOR - x % SECTOR) % SECTOR)
 }
 
 // The longest flash: 4 MiB.
@@ -64,7 +64,7 @@ pub fn flash_length_good(n: usize) -> bool
 const NO_BLOCKS: u32 = 0;
 
 // How many blocks hold so many bytes: S/b rounded up, and none where b is 0. With S from 1 this is (S - 1)/b + 1: no product, and a sum
-// of at most S.
+// of at most S. Not by u32::div_ceil, since it calls nothing (docs/wide-operations).
 pub fn count_of(size: u32, block: u32) -> u32
     ensures { result ≡ count_of size block }
 {
@@ -94,7 +94,7 @@ pub fn flash_good(lengths: Lengths, begin: Begin) -> bool
 {
     let block = begin.block;
     let offset = begin.offset;
-    let last = offset as u64 + round_up(begin.size);
+    let last = u64::from(offset) + round_up(begin.size);
     let placed = (offset % SECTOR == 0) & (last <= lengths.flash as u64);
     (1 <= block) & ((block <= LARGEST_BLOCK) & (count_good(begin) & placed))
 }
@@ -107,7 +107,7 @@ pub const MEMORY_START: u32 = 0x40100000;
 pub fn up_to_end(lengths: Lengths, address: u64) -> bool
     ensures { result ≡ nat_le address (memory_end lengths) }
 {
-    let start = MEMORY_START as u64;
+    let start = u64::from(MEMORY_START);
     if address <= start {
         return true;
     }
@@ -129,7 +129,7 @@ pub fn memory_good(lengths: Lengths, begin: Begin) -> bool
     let size = begin.size;
     let block = begin.block;
     let address = begin.offset;
-    let last = address as u64 + size as u64;
+    let last = u64::from(address) + u64::from(size);
     let placed = (MEMORY_START <= address) & up_to_end(lengths, last);
     let aligned = (size % 4 == 0) & ((block % 4 == 0) & ((address % 4 == 0) & placed));
     (4 <= block) & ((block <= LARGEST_BLOCK) & (count_good(begin) & aligned))

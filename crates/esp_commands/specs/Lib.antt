@@ -1,4 +1,5 @@
 pub mod Numbers
+pub mod Names
 pub mod Header
 pub mod Block
 pub mod Status

@@ -2,37 +2,66 @@
 #![tactic(auto)]
 
 ghost use Rattle.std.specs.Prelude.{◌≡◌};
+ghost use Rattle.esp_commands.specs.Names.{command_number, Names};
 ghost use Rattle.esp_commands.specs.Header.{command, sized, shaped, data_shaped};
 ghost use Rattle.esp_commands.specs.Block.{zero_words, sum_good, padding_good};
 ghost use Rattle.esp_commands.specs.Status.{status_of};
 
 use esp_begin::Begin;
 use fields::{FIRST_WORD, FOURTH_WORD, HEADER, THIRD_WORD};
-use lists::saturating_sub;
 
-// ---- the commands by number
+// ---- the commands
 
-pub const FLASH_BEGIN: u8 = 0x02;
+// The commands that the loader knows, by their numbers.
+#[derive(Clone, Copy, PartialEq, Eq)]
+pub enum Command {
+    FlashBegin = 0x02,
+    FlashData = 0x03,
+    FlashEnd = 0x04,
+    MemBegin = 0x05,
+    MemEnd = 0x06,
+    MemData = 0x07,
+    Sync = 0x08,
+    WriteReg = 0x09,
+    ReadReg = 0x0A,
+    SpiAttach = 0x0D,
+    SpiFlashMd5 = 0x13,
+}
 
-pub const FLASH_DATA: u8 = 0x03;
+// A number that is no command's.
+#[derive(Clone, Copy, PartialEq, Eq)]
+pub struct UnknownCommand(pub u8);
 
-pub const FLASH_END: u8 = 0x04;
+impl From<Command> for u8 {
+    ghost from_gives = { λ c n. n ≡ command_number c };
 
-pub const MEM_BEGIN: u8 = 0x05;
+    fn from(command: Command) -> u8 {
+        command as u8
+    }
+}
 
-pub const MEM_END: u8 = 0x06;
+impl TryFrom<u8> for Command {
+    type Error = UnknownCommand;
 
-pub const MEM_DATA: u8 = 0x07;
+    ghost try_from_gives = { Names };
 
-pub const SYNC: u8 = 0x08;
-
-pub const WRITE_REG: u8 = 0x09;
-
-pub const READ_REG: u8 = 0x0A;
-
-pub const SPI_ATTACH: u8 = 0x0D;
-
-pub const SPI_FLASH_MD5: u8 = 0x13;
+    fn try_from(number: u8) -> Result<Self, UnknownCommand> {
+        match number {
+            0x02 => Ok(Command::FlashBegin),
+            0x03 => Ok(Command::FlashData),
+            0x04 => Ok(Command::FlashEnd),
+            0x05 => Ok(Command::MemBegin),
+            0x06 => Ok(Command::MemEnd),
+            0x07 => Ok(Command::MemData),
+            0x08 => Ok(Command::Sync),
+            0x09 => Ok(Command::WriteReg),
+            0x0A => Ok(Command::ReadReg),
+            0x0D => Ok(Command::SpiAttach),
+            0x13 => Ok(Command::SpiFlashMd5),
+            _ => Err(UnknownCommand(number)),
+        }
+    }
+}
 
 // The length of four words: the whole body of a BEGIN, WRITE_REG or SPI_FLASH_MD5, and what stands before the data of a data command. Where
 // the data begin.
@@ -43,41 +72,46 @@ pub const DATA_AT: usize = 24;
 // ---- the header
 
 // The command's number.
+#[tactic(auto, unfolding(crate::specs::Header::command))]
 pub fn command_of(packet: &[u8]) -> u8
     ensures { result ≡ command packet.now }
 {
-    if 1 < packet.len() {
-        return packet[1];
+    match packet {
+        [_, command, ..] => *command,
+        _ => 0,
     }
-    0
 }
 
 // Whether the size field is the body's length.
+#[tactic(auto, unfolding(crate::specs::Header::sized))]
 fn size_told(packet: &[u8]) -> bool
     ensures { result ≡ sized packet.now }
 {
-    fields::half_at(packet, 2) as usize == saturating_sub(packet.len(), HEADER)
+    fields::half_at(packet, 2) as usize == packet.len().saturating_sub(HEADER)
 }
 
 // Whether a packet passes the 0xC0 check of a command whose body is n bytes long.
+#[tactic(auto, unfolding(crate::specs::Header::shaped))]
 pub fn shape_good(packet: &[u8], n: usize) -> bool
     ensures { result ≡ shaped n packet.now }
 {
-    size_told(packet) & (saturating_sub(packet.len(), HEADER) == n)
+    size_told(packet) & (packet.len().saturating_sub(HEADER) == n)
 }
 
 // Whether a packet passes the 0xC0 check of a data command.
+#[tactic(auto, unfolding(crate::specs::Header::data_shaped))]
 pub fn data_shape_good(packet: &[u8]) -> bool
     ensures { result ≡ data_shaped packet.now }
 {
-    let length = saturating_sub(packet.len(), HEADER);
+    let length = packet.len().saturating_sub(HEADER);
     let size = fields::word_at(packet, FIRST_WORD) as usize;
-    size_told(packet) & ((FOUR_WORDS <= length) & (size == saturating_sub(length, FOUR_WORDS)))
+    size_told(packet) & ((FOUR_WORDS <= length) & (size == length.saturating_sub(FOUR_WORDS)))
 }
 
 // ---- a data command
 
 // Whether the third and fourth words are 0.
+#[tactic(auto, unfolding(crate::specs::Block::zero_words))]
 pub fn zero_words_good(packet: &[u8]) -> bool
     ensures { result ≡ zero_words packet.now }
 {
@@ -85,11 +119,12 @@ pub fn zero_words_good(packet: &[u8]) -> bool
 }
 
 // Whether the whole checksum field is the checksum of the data.
+#[tactic(auto, unfolding(crate::specs::Block::sum_good, crate::specs::Block::payload))]
 pub fn sum_good(packet: &[u8]) -> bool
     ensures { result ≡ sum_good packet.now }
 {
     let sum = fields::checksum_from(packet, DATA_AT);
-    fields::word_at(packet, 4) == sum as u32
+    fields::word_at(packet, 4) == u32::from(sum)
 }
 
 // Whether the data of block k is 0xFF past the announced size.
@@ -102,12 +137,9 @@ pub fn padding_good(begin: Begin, k: u32, packet: &[u8]) -> bool
 
 // ---- an answer
 
-// The status byte that is sent with an error byte.
+// The status byte that is sent with an error byte, which may be any.
 pub fn status_of(error: u8) -> u8
     ensures { result ≡ status_of error }
 {
-    if error == 0 {
-        return 0;
-    }
-    1
+    u8::from(error != 0)
 }

@@ -4,8 +4,9 @@ use mathlib.Core.List.{List}
 use Prim.Native.Nat.{ℕ, ◌+◌, ◌-◌, ◌≤◌, ◌<◌}
 use native.Mathlib.Omega.{arith}
 use lib.ListN.{length, length-append, length-replicate}
-use Rattle.slip_framing.specs.Frame.{framing, Frames}
-use Rattle.slip_framing.specs.declared.Framed.TheVariants.{Refused}
+use Rattle.slip_framing.specs.Frame.{refused, frame_report, framing, Frames}
+use Rattle.std.specs.Prelude.{Result}
+use Rattle.slip_framing.specs.declared.FrameError.{FrameError}
 use Rattle.slip_framing.proofs.Refusals.{framing-long, frames_as}
 use Rattle.esp_requests.specs.Requests.{request}
 use Rattle.esp_requests.proofs.Lengths.{Frameable}
@@ -27,15 +28,15 @@ pub full-length : (block : ℕ) (bytes : List ℕ) → length bytes ≤ block �
 full-length block bytes h = omega (arith, padded-length block bytes)
 
 -- too many of them
-module _ (block k : ℕ) (part buffer : List ℕ) where
-  too_long : 4096 < length (padded block part) → Frames (framing (data_packet block k (padded block part)) buffer) (Refused 7) buffer
+module _ (block k : ℕ) (part buffer : List ℕ) (r : Result ℕ FrameError) (told : frame_report r ≡ refused 7) where
+  too_long : 4096 < length (padded block part) → Frames (framing (data_packet block k (padded block part)) buffer) r buffer
   too_long h =
       let p = data_packet block k (padded block part) in
       let l = data_length block k (padded block part) in
-      frames_as p buffer _ _ (framing-long p buffer (omega arith) (omega arith)) refl refl
+      frames_as p buffer _ _ (framing-long p buffer (omega arith) (omega arith)) told refl
 
-  pub block_too_long : 4096 < block → Frames (framing (data_packet block k (padded block part)) buffer) (Refused 7) buffer
+  pub block_too_long : 4096 < block → Frames (framing (data_packet block k (padded block part)) buffer) r buffer
   block_too_long h = too_long (omega (arith, padded-length block part))
 
-  pub part_too_long : 4096 < length part → Frames (framing (data_packet block k (padded block part)) buffer) (Refused 7) buffer
+  pub part_too_long : 4096 < length part → Frames (framing (data_packet block k (padded block part)) buffer) r buffer
   part_too_long h = too_long (omega (arith, padded-length block part))

@@ -8,7 +8,8 @@ ghost use Rattle.esp_header.specs.Classified.{classified};
 
 use slip_unframing::Reason;
 
-// A closed packet: dropped for a reason, or read, with its command.
+// A closed packet: dropped for a reason, or read, with its command. No Result: the scope names an enum
+// that `let .. else` takes apart.
 #[derive(Clone, Copy)]
 pub enum Packet {
     Dropped(Reason),
@@ -16,6 +17,7 @@ pub enum Packet {
 }
 
 // A whole packet is read where it has a header and its direction is 0, in this order.
+#[tactic(auto, unfolding(slip_packets::specs::Packets::header, esp_commands::specs::Header::command))]
 pub fn read_packet(packet: &[u8]) -> Packet
     ensures { result ≡ classified (header (whole packet.now)) }
 {

@@ -18,7 +18,7 @@ pub fn flash_end_good(packet: &[u8]) -> bool
 fn in_words(lengths: Lengths, address: u32) -> bool
     ensures { result ≡ in_words lengths address }
 {
-    (MEMORY_START <= address) & esp_begin::up_to_end(lengths, address as u64 + 1)
+    (MEMORY_START <= address) & esp_begin::up_to_end(lengths, u64::from(address) + 1)
 }
 
 // Whether MEM_END's flag is 1, or 0 with an entry in the words.
@@ -62,7 +62,7 @@ pub fn digest_good(lengths: Lengths, packet: &[u8]) -> bool
 {
     let address = fields::word_at(packet, FIRST_WORD);
     let size = fields::word_at(packet, SECOND_WORD);
-    let end = address as u64 + size as u64;
+    let end = u64::from(address) + u64::from(size);
     esp_commands::zero_words_good(packet) & (end <= lengths.flash as u64)
 }
 
@@ -70,5 +70,5 @@ pub fn digest_good(lengths: Lengths, packet: &[u8]) -> bool
 pub fn place_of(address: u64) -> usize
     ensures { result ≡ place address }
 {
-    lists::saturating_sub(address as usize, MEMORY_START as usize) >> 2
+    (address as usize).saturating_sub(MEMORY_START as usize) >> 2
 }

@@ -22,18 +22,11 @@ pub const FOURTH_WORD: usize = 20;
 
 // Words
 
-// A byte as a word.
-fn wide(x: u8) -> u32
-    ensures { (result ≡ x) × (result < 256) }
+// The byte at a place; one past the end counts as 0.
+fn byte_at(s: &[u8], at: usize) -> u8
+    ensures { result ≡ get_or s.now at 0 }
 {
-    x as u32
-}
-
-// The byte at a place as a word; a byte past the end counts as 0.
-fn byte_at(s: &[u8], at: usize) -> u32
-    ensures { (result ≡ get_or s.now at 0) × (result < 256) }
-{
-    if at < s.len() { wide(s[at]) } else { 0 }
+    s.get(at).map_or(0, |byte| *byte)
 }
 
 // The word at a place, least byte first.
@@ -43,11 +36,12 @@ pub fn word_at(s: &[u8], at: usize) -> u32
     if s.len() <= at {
         return 0;
     }
-    let a = byte_at(s, at);
-    let b = byte_at(s, at + 1);
-    let c = byte_at(s, at + 2);
-    let d = byte_at(s, at + 3);
-    a + b * 0x100 + c * 0x10000 + d * 0x1000000
+    u32::from_le_bytes([
+        byte_at(s, at),
+        byte_at(s, at + 1),
+        byte_at(s, at + 2),
+        byte_at(s, at + 3),
+    ])
 }
 
 // The number of two bytes at a place, least byte first.
@@ -57,16 +51,7 @@ pub fn half_at(s: &[u8], at: usize) -> u32
     if s.len() <= at {
         return 0;
     }
-    let a = byte_at(s, at);
-    let b = byte_at(s, at + 1);
-    a + b * 0x100
-}
-
-// The least byte of a word.
-fn low_byte(x: u32) -> u8
-    ensures { result ≡ x % 0x100 }
-{
-    (x & 255) as u8
+    u32::from(u16::from_le_bytes([byte_at(s, at), byte_at(s, at + 1)]))
 }
 
 // The four bytes of a word.
@@ -76,12 +61,7 @@ pub type WordBytes = [u8; 4];
 pub fn bytes_of(x: u32) -> WordBytes
     ensures { result ≡ bytes_of x }
 {
-    [
-        low_byte(x),
-        low_byte(x >> 8),
-        low_byte(x >> 16),
-        low_byte(x >> 24),
-    ]
+    x.to_le_bytes()
 }
 
 // Headers
@@ -105,13 +85,7 @@ pub fn header(direction: u8, command: u8, size: u32, word: u32) -> HeaderBytes
 pub fn xor_from(seed: u8, s: &[u8], from: usize) -> u8
     ensures { result ≡ xored seed (drop from s.now) }
 {
-    let mut x: u8 = seed;
-    let mut i: usize = from;
-    while i < s.len() {
-        x ^= s[i];
-        i += 1;
-    }
-    x
+    s.iter().skip(from).fold(seed, |x, byte| x ^ *byte)
 }
 
 // What a checksum of data starts from.

@@ -2,18 +2,21 @@
 #![tactic(auto)]
 
 ghost use Rattle.std.specs.Prelude.{◌≡◌, List, true, ℕ, ◌≤◌, ◌<◌, length};
+ghost use Rattle.link_refusals.specs.Refusals.{refusal_number, shortest_buffer, checks};
 ghost use Rattle.link_frames.specs.Frames.{most_held};
 ghost use Rattle.link_state.specs.Link.{store, held_of, kept};
 ghost use Rattle.link_refusals.specs.Sound.{holder_good};
-ghost use Rattle.link_refusals.specs.Refusals.{shortest_buffer};
-ghost use Rattle.link_events.specs.Moves.{moved};
+ghost use Rattle.link_state.specs.Silence.{lost, checked};
+ghost use Rattle.link_events.specs.Moves.{Move, moved};
+ghost use Rattle.link_events.specs.declared.Turn.{Turn};
 ghost use Rattle.link.specs.Answers.{came, done, refusing};
 ghost use Rattle.link.specs.Hearing.{whole_frame, heard, received};
-ghost use Rattle.link.specs.Step.{pull_step, byte_step, poll_step, send_step};
+ghost use Rattle.link.specs.Step.{call, pull_step, byte_step, poll_step, send_step};
 
 pub use link_events::Event;
 use link_events::Turn;
 pub use link_frames::{FIRST_EDITION, Holder, LATER_EDITION, Payload};
+pub use link_refusals::Refusal;
 pub use link_state::{Link, Opening, Phase, new};
 
 // What a call tells, in the order in which the caller acts on it.
@@ -26,7 +29,7 @@ pub struct Told {
     pub sent: usize,
     // What came of the call; each case says what it asks for.
     pub event: Event,
-    // The data that is handed over, zeros behind it.
+    // The data that is handed over, zeros behind it: an array, since there is no heap and no byte is lent for longer than a call.
     pub bytes: Payload,
 }
 
@@ -48,60 +51,66 @@ fn keep(link: Link, byte: u8) -> Link
     next.held = held + 1;
     if held == 0 {
         next.kind = byte;
-        return next;
+    } else {
+        next.frame[held - 1] = byte;
     }
-    next.frame[held - 1] = byte;
     next
 }
 
-// A whole frame: all of it but the checksum is held.
-fn frame_whole(link: Link, tick: u32) -> Turn
-    requires { holder_good link.edition link.held (store link) ≡ true }
-    ensures { moved result ≡ whole_frame link (held_of link) tick }
-{
-    let phase = link.phase;
-    let kind = link.kind;
-    let next = link_state::renew(link, tick);
-    match phase {
-        Phase::Start => link_events::stay(next),
-        Phase::Baud => {
-            let rate = fields::word_at(&link.frame, 0);
-            link_effects::baud_frame(next, kind, rate, tick)
-        }
-        Phase::Open => link_effects::open_frame(next, kind, &link.frame),
-    }
+// A record whose holder is good: what it holds begins a longer good frame, and zeros stand behind it.
+#[derive(Clone, Copy)]
+struct Receiver {
+    link: Link,
+    ghost holder: { holder_good link.edition link.held (store link) ≡ true },
 }
 
-// A byte that is not ignored.
-fn hear(link: Link, byte: u8, tick: u32) -> Turn
-    requires { holder_good link.edition link.held (store link) ≡ true }
-    ensures { moved result ≡ heard link byte tick }
-{
-    if link_frames::lacks_sum(link.edition, link.held, link.kind, link.frame[0]) {
-        let contents = &link.frame[..];
-        let count = link.held - 1;
-        if byte == fields::xor_from(link.kind, &contents[..count], 0) {
-            return frame_whole(link, tick);
+impl Receiver {
+    // A whole frame: all of it but the checksum is held.
+    fn frame_whole(self, tick: u32) -> Turn
+        ensures { moved result ≡ whole_frame self.link (held_of self.link) tick }
+    {
+        let link = self.link;
+        let next = link_state::renew(link, tick);
+        match link.phase {
+            Phase::Start => link_events::stay(next),
+            Phase::Baud => {
+                let rate = fields::word_at(&link.frame, 0);
+                link_effects::baud_frame(next, link.kind, rate, tick)
+            }
+            Phase::Open => link_effects::open_frame(next, link.kind, &link.frame),
         }
-        return link_events::break_off(link);
     }
-    let next = keep(link, byte);
-    if link_frames::is_begun(next.edition, next.held, next.kind, next.frame[0]) {
-        return link_events::stay(next);
-    }
-    link_events::break_off(link)
-}
 
-// A byte, after the silence and dead time checks.
-fn receive(link: Link, byte: u8, tick: u32) -> Turn
-    requires { holder_good link.edition link.held (store link) ≡ true }
-    ensures { moved result ≡ received link byte tick }
-{
-    let phase = link.phase;
-    if link_events::is_listening(phase, link.dead) {
-        return hear(link, byte, tick);
+    // A byte that is not ignored.
+    fn hear(self, byte: u8, tick: u32) -> Turn
+        ensures { moved result ≡ heard self.link byte tick }
+    {
+        let link = self.link;
+        if link_frames::lacks_sum(link.edition, link.held, link.kind, link.frame[0]) {
+            let contents = &link.frame[..];
+            let count = link.held - 1;
+            if byte == fields::xor_from(link.kind, &contents[..count], 0) {
+                return self.frame_whole(tick);
+            }
+            return link_events::break_off(link);
+        }
+        let next = keep(link, byte);
+        if link_frames::is_begun(next.edition, next.held, next.kind, next.frame[0]) {
+            return link_events::stay(next);
+        }
+        link_events::break_off(link)
     }
-    link_events::stay(link)
+
+    // A byte, after the silence and dead time checks.
+    fn receive(self, byte: u8, tick: u32) -> Turn
+        ensures { moved result ≡ received self.link byte tick }
+    {
+        let link = self.link;
+        if link_events::is_listening(link.phase, link.dead) {
+            return self.hear(byte, tick);
+        }
+        link_events::stay(link)
+    }
 }
 
 // A turn carried out: its reply is written, and the caller is told.
@@ -109,10 +118,12 @@ fn answer(turn: Turn, gone: bool, buffer: &mut [u8]) -> Next
     requires { shortest_buffer ≤ length buffer.old }
     ensures { came result.link result.told buffer.new ≡ done gone (moved turn) buffer.old }
 {
-    let link = turn.link;
-    let event = turn.event;
-    let reply = turn.reply;
-    let bytes = turn.bytes;
+    let Turn {
+        link,
+        event,
+        reply,
+        bytes,
+    } = turn;
     let sent = link_events::write_reply(reply, buffer);
     Next {
         link,
@@ -126,17 +137,34 @@ fn answer(turn: Turn, gone: bool, buffer: &mut [u8]) -> Next
 }
 
 // A refused call: the record as it came, and nothing sent.
-fn refuse(link: Link, number: u8) -> Next
-    ensures { (buffer : List ℕ) → came result.link result.told buffer ≡ refusing number link buffer }
+fn refuse(link: Link, refusal: Refusal) -> Next
+    ensures { (buffer : List ℕ) → came result.link result.told buffer ≡ refusing (refusal_number refusal) link buffer }
 {
     Next {
         link,
         told: Told {
-            event: Event::Refused(number),
+            event: Event::Refused(refusal),
             lost: false,
             sent: 0,
             bytes: link_events::NO_DATA,
         },
+    }
+}
+
+// A call that is no send: refused, or carried out as this turn of the record after the silence and dead time checks.
+fn carry_out<F: FnOnce(Receiver) -> Turn>(link: Link, tick: u32, buffer: &mut [u8], turn: F) -> Next
+    requires { F.IsAlwaysCallable turn }
+    ensures { (m : Move) → ((r : Receiver) (t : Turn) → r.link ≡ checked link tick → F.post turn r t → moved t ≡ m) → came result.link result.told buffer.new ≡ call (checks link (length buffer.old)) link (lost link.phase link.last tick) m buffer.old }
+{
+    match link_refusals::judge(link, buffer.len()) {
+        Err(refusal) => refuse(link, refusal),
+        Ok(()) => {
+            let gone = link_state::is_lost(link.phase, link.last, tick);
+            let later = Receiver {
+                link: link_state::after_checks(link, tick),
+            };
+            answer(turn(later), gone, buffer)
+        }
     }
 }
 
@@ -148,17 +176,9 @@ fn refuse(link: Link, number: u8) -> Next
 pub fn pull(link: Link, tick: u32, buffer: &mut [u8]) -> Next
     ensures { came result.link result.told buffer.new ≡ pull_step link tick buffer.old }
 {
-    let number = link_refusals::judge(link, buffer.len());
-    if number == 0 {
-        let phase = link.phase;
-        let gone = link_state::is_lost(phase, link.last, tick);
-        return answer(
-            link_events::pull_line(link_state::after_checks(link, tick), tick),
-            gone,
-            buffer,
-        );
-    }
-    refuse(link, number)
+    carry_out(link, tick, buffer, |later| {
+        link_events::pull_line(later.link, tick)
+    })
 }
 
 // A byte was received, at this tick: to be called for each byte, in their order. A frame whose last byte comes 250 ms or more after the
@@ -166,17 +186,7 @@ pub fn pull(link: Link, tick: u32, buffer: &mut [u8]) -> Next
 pub fn byte(link: Link, byte: u8, tick: u32, buffer: &mut [u8]) -> Next
     ensures { came result.link result.told buffer.new ≡ byte_step link byte tick buffer.old }
 {
-    let number = link_refusals::judge(link, buffer.len());
-    if number == 0 {
-        let phase = link.phase;
-        let gone = link_state::is_lost(phase, link.last, tick);
-        return answer(
-            receive(link_state::after_checks(link, tick), byte, tick),
-            gone,
-            buffer,
-        );
-    }
-    refuse(link, number)
+    carry_out(link, tick, buffer, |later| later.receive(byte, tick))
 }
 
 // Time has passed. Silence, 250 ms without activity, is found by a call only, and a send does not tell it: where no byte comes, this is
@@ -184,17 +194,7 @@ pub fn byte(link: Link, byte: u8, tick: u32, buffer: &mut [u8]) -> Next
 pub fn poll(link: Link, tick: u32, buffer: &mut [u8]) -> Next
     ensures { came result.link result.told buffer.new ≡ poll_step link tick buffer.old }
 {
-    let number = link_refusals::judge(link, buffer.len());
-    if number == 0 {
-        let phase = link.phase;
-        let gone = link_state::is_lost(phase, link.last, tick);
-        return answer(
-            link_events::stay(link_state::after_checks(link, tick)),
-            gone,
-            buffer,
-        );
-    }
-    refuse(link, number)
+    carry_out(link, tick, buffer, |later| link_events::stay(later.link))
 }
 
 // Data is to be sent, at most 64 bytes; it is outstanding until an event says `Confirmed` or `Failed`, or until the link is lost or
@@ -204,22 +204,21 @@ pub fn send(link: Link, bytes: &[u8], tick: u32, buffer: &mut [u8]) -> Next
     ensures { came result.link result.told buffer.new ≡ send_step link bytes.now tick buffer.old }
 {
     let later = link_state::after_checks(link, tick);
-    let refusal = link_refusals::judge_send(link, later, bytes.len(), buffer.len());
-    if refusal == 0 {
-        let phase = link.phase;
-        let gone = link_state::is_lost(phase, link.last, tick);
-        let mut next = later;
-        next.outstanding = true;
-        let sent = link_frames::write_data(bytes, buffer);
-        return Next {
-            link: next,
-            told: Told {
-                event: Event::Nothing,
-                lost: gone,
-                sent,
-                bytes: link_events::NO_DATA,
-            },
-        };
+    if let Err(refusal) = link_refusals::judge_send(link, later, bytes.len(), buffer.len()) {
+        return refuse(link, refusal);
     }
-    refuse(link, refusal)
+    let gone = link_state::is_lost(link.phase, link.last, tick);
+    let sent = link_frames::write_data(bytes, buffer);
+    Next {
+        link: Link {
+            outstanding: true,
+            ..later
+        },
+        told: Told {
+            event: Event::Nothing,
+            lost: gone,
+            sent,
+            bytes: link_events::NO_DATA,
+        },
+    }
 }

@@ -3,7 +3,7 @@ ghost use Rattle.std.specs.Prelude.{◌≡◌};
 ghost use Rattle.link_events.specs.Moves.{moved};
 ghost use Rattle.link_effects.specs.Whole.{power_frame};
 
-use link_events::{Event, NO_DATA, Reply, Turn, reply_with};
+use link_events::{Event, Reply, Turn, reply_with};
 use link_state::Link;
 
 // With RPC closed the power is so from now on, and the caller is told; with RPC open nothing changes.
@@ -11,14 +11,11 @@ pub fn power_frame(link: Link, on: bool) -> Turn
     ensures { moved result ≡ power_frame link on }
 {
     if link.rpc {
-        return reply_with(link, Reply::Status(1));
-    }
-    let mut next = link;
-    next.power = on;
-    Turn {
-        link: next,
-        event: Event::Powered(on),
-        reply: Reply::Status(0),
-        bytes: NO_DATA,
+        reply_with(link, Reply::Status(1))
+    } else {
+        Turn {
+            event: Event::Powered(on),
+            ..reply_with(Link { power: on, ..link }, Reply::Status(0))
+        }
     }
 }

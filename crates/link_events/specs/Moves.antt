@@ -2,6 +2,7 @@
 use Rattle.std.specs.Prelude.{List, [], ◌++◌, Bool, cond, ℕ, ◌-◌, length, replicate, nat_eq}
 use Rattle.link_frames.specs.Frames.{most_data, heartbeat, status}
 use Rattle.link_state.specs.declared.Link.{Link}
+use Rattle.link_refusals.specs.Refusals.{refusal_number}
 use Rattle.link_events.specs.declared.Event.{Event}
 use Rattle.link_events.specs.declared.Event.TheVariants as event
 use Rattle.link_events.specs.declared.Reply.{Reply}
@@ -29,7 +30,7 @@ said event.Confirmed = confirmed
 said (event.Failed code) = failed code
 said (event.Powered on) = powered on
 said event.DetectedError = detected
-said (event.Refused number) = refused number
+said (event.Refused refusal) = refused (refusal_number refusal)
 
 -- "confirmed by 0, failed by 1 or 2, as the caller is told": no good status frame has another code
 unfoldable pub ended : ℕ → Saying

@@ -8,6 +8,7 @@ ghost use Rattle.link_events.specs.Moves.{sent, moved};
 ghost use Rattle.link_events.specs.Turns.{quiet, answers, broken, pulled, listens};
 
 use link_frames::Payload;
+use link_refusals::Refusal;
 use link_state::{Link, Phase};
 
 // What the caller is told. Whichever it is, the first `sent` bytes of the answer buffer are to be sent, and the record that comes back
@@ -24,7 +25,7 @@ pub enum Event {
     // The other end has our outstanding data. Nothing is outstanding any more: while RPC is open, more may be sent.
     Confirmed,
     // The other end has not taken our outstanding data: this is its status, 1 or 2. Nothing is outstanding any more: while
-    // RPC is open, send the data again, or give it up.
+    // RPC is open, send the data again, or give it up. A number, as in the frame: `open_frame` is proved for any byte there.
     Failed(u8),
     // The module has asked for the 5 V, true, or no longer needs them, false; told too where they are so already. Let the reply go out,
     // then switch them. They stay so until the next such event, or until a loss or a detected error switches them off.
@@ -32,10 +33,8 @@ pub enum Event {
     // What came is no good frame, or one out of place. The link is in Start: nothing is sent, the line goes back to 9600, the 5 V are
     // switched off if they are on, outstanding data is gone, and the other end has to pull the line again.
     DetectedError,
-    // The call did nothing, for the reason of this number; the record comes back as it was, nothing is sent, and a byte is not taken.
-    // 5: the record is none that a call gave, or of an edition that there is not: open a link anew; 8: the answer buffer is under 67
-    // bytes; and only for a send, 10: not Open, 12: dead time, 11: RPC is closed, 13: a frame of ours is unconfirmed, 14: over 64 bytes.
-    Refused(u8),
+    // The call did nothing, for this reason; the record comes back as it was, nothing is sent, and a byte is not taken.
+    Refused(Refusal),
 }
 
 // What is sent for a frame. A caller of the link does not meet it: there the bytes stand in the answer buffer.
@@ -43,7 +42,7 @@ pub enum Event {
 pub enum Reply {
     Nothing,
     Heartbeat,
-    // Of this code: 0 good, 1 any error, 2 a rate that is not supported.
+    // Of this code: 0 good, 1 any error, 2 a rate that is not supported. A number, since `write_reply` writes any code.
     Status(u8),
 }
 
@@ -76,10 +75,8 @@ pub fn reply_with(link: Link, answer: Reply) -> Turn
     ensures { moved result ≡ answers link (sent answer) }
 {
     Turn {
-        link,
-        event: Event::Nothing,
         reply: answer,
-        bytes: NO_DATA,
+        ..stay(link)
     }
 }
 
@@ -87,12 +84,9 @@ pub fn reply_with(link: Link, answer: Reply) -> Turn
 pub fn break_off(link: Link) -> Turn
     ensures { moved result ≡ broken link.edition }
 {
-    let next = link_state::restart(link.edition);
     Turn {
-        link: next,
         event: Event::DetectedError,
-        reply: Reply::Nothing,
-        bytes: NO_DATA,
+        ..stay(link_state::restart(link.edition))
     }
 }
 
@@ -100,31 +94,25 @@ pub fn break_off(link: Link) -> Turn
 fn is_waiting(phase: Phase) -> bool
     ensures { result ≡ by_phase phase true false false }
 {
-    match phase {
-        Phase::Start => true,
-        Phase::Baud => false,
-        Phase::Open => false,
-    }
+    matches!(phase, Phase::Start)
 }
 
 // A pulled line.
 pub fn pull_line(link: Link, tick: u32) -> Turn
     ensures { moved result ≡ pulled link tick }
 {
-    let phase = link.phase;
-    if is_waiting(phase) {
-        return reply_with(
-            link_state::enter(
-                link.edition,
-                Phase::Baud,
-                link_state::FIRST_RATE,
-                tick,
-                false,
-            ),
-            Reply::Heartbeat,
+    if is_waiting(link.phase) {
+        let next = link_state::enter(
+            link.edition,
+            Phase::Baud,
+            link_state::FIRST_RATE,
+            tick,
+            false,
         );
+        reply_with(next, Reply::Heartbeat)
+    } else {
+        stay(link)
     }
-    stay(link)
 }
 
 // Whether bytes that come are read.
@@ -138,7 +126,7 @@ pub fn is_listening(phase: Phase, dead: bool) -> bool
     }
 }
 
-// A reply at the front of the buffer; how many bytes it has. Where they do not fit none is written.
+// A reply at the front of the buffer; how many bytes it has. Where they do not fit none is written, and `Writes` has 0.
 pub fn write_reply(answer: Reply, buffer: &mut [u8]) -> usize
     ensures { Writes (fitting buffer.old (sent answer)) buffer.old result buffer.new }
 {

@@ -2,7 +2,7 @@
 use Prim.Native.Nat.{ℕ, zero, suc, ◌-◌, ◌≤◌}
 use mathlib.Core.Path.{◌≡◌, refl, sym}
 use mathlib.Core.List.{List, [], ◌∷◌}
-use mathlib.Core.Bool.{Bool, true, false, cond, ◌&&◌}
+use mathlib.Core.Bool.{Bool, true, false, cond}
 use native.Mathlib.Numerals.{sub-one}
 use native.Mathlib.Omega.{arith}
 use lib.ListN.{length, take, drop, get_or}
@@ -17,17 +17,9 @@ use Rattle.link_frames.specs.Frames.{most_contents, most_held}
 use Rattle.link_frames.specs.Reading.{good_start, all_but_sum, begins, lacks_sum}
 
 module _ {A : Type 0} where
-  pub drop_past : (n : ℕ) (x : A) (xs : List A) → (n ≡ 0 → ⊥) → drop n (x ∷ xs) ≡ drop (n - 1) xs
-  drop_past zero x xs h = absurd (h refl)
-  drop_past (suc n) x xs h = rw sub-one
-
   take_past : (n : ℕ) (x : A) (xs : List A) → (n ≡ 0 → ⊥) → take n (x ∷ xs) ≡ x ∷ take (n - 1) xs
   take_past zero x xs h = absurd (h refl)
   take_past (suc n) x xs h = rw sub-one
-
-pub and-cond : (t x : Bool) → (t && x) ≡ cond t x false
-and-cond true x = refl
-and-cond false x = refl
 
 -- ---- zeros behind
 pub zero-first : (b : ℕ) (bs : List ℕ) → all_are 0 (b ∷ bs) ≡ true → (b ≡ 0) × (all_are 0 bs ≡ true)

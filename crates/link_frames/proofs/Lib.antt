@@ -1,3 +1,4 @@
 pub mod Holder
 pub mod Sizes
 pub mod Writing
+pub mod ByKind

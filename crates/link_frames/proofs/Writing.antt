@@ -1,13 +1,12 @@
 -- Laws of what is written to the front of a buffer.
-use Prim.Native.Nat.{ℕ, ◌+◌, ◌-◌, ◌≤◌, ◌<◌}
+use Prim.Native.Nat.{ℕ, ◌+◌, ◌≤◌, ◌<◌}
 use mathlib.Core.Path.{◌≡◌, refl, sym, ◌∙◌}
 use mathlib.Core.List.{List, [], ◌∷◌}
 use native.Mathlib.Omega.{arith}
-use lib.ListN.{length, take, drop, set, length-append, length-drop}
-use lib.Seq.{take_all}
+use lib.ListN.{length, set, length-append}
 use borrow.Author.Tests.{le-leb, lt-leb}
 use Rattle.lists.specs.Lay.{lay, lay_if_fits}
-use Rattle.lists.proofs.Laws.{lay-nil, lay-whole, set-set-lay, lay-lay, lay-more}
+use Rattle.lists.proofs.Laws.{lay-nil, set-set-lay, lay-lay, lay-more}
 use Rattle.lists.proofs.Fits.{lay-fits}
 use Rattle.fields.specs.Checksum.{xored}
 use Rattle.link_frames.specs.Frames.{most_data, data_type, frame_of, data_frame}
@@ -30,12 +29,6 @@ module _ (buffer bytes : List ℕ) where
 
 pub none_written : (buffer : List ℕ) → Writes (fitting buffer []) buffer 0 buffer
 none_written buffer = rw (fits buffer [] (omega arith)) (record { count = refl; buffer = sym (lay-nil buffer 0) })
-
--- an array that is written over with all but the first byte of another
-pub all_written : (array xs : List ℕ) → length xs ≡ length array + 1 → lay_if_fits array 0 (take (length xs - 1) (drop 1 xs)) ≡ drop 1 xs
-all_written array xs e =
-    let n : length (drop 1 xs) ≡ length array = rw length-drop (omega arith) in
-    rw (take_all (length xs - 1) (drop 1 xs) (omega arith)) (lay-fits array 0 (drop 1 xs) (omega arith) ∙ lay-whole array (drop 1 xs) n)
 
 -- ---- the frame of data
 module _ (buffer bytes : List ℕ) where

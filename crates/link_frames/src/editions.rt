@@ -1,4 +1,5 @@
-// The editions of the protocol.
+// The editions of the protocol. They are numbers, since a link's record can name any, which refusal 5 judges
+// (`link_claims::EditionJudged`), and opening one gives 18 (`link_claims::OpeningIs`).
 ghost use Rattle.std.specs.Prelude.{◌≡◌};
 ghost use Rattle.link_frames.specs.Editions.{is_edition, most_control};
 
@@ -7,6 +8,7 @@ pub const FIRST_EDITION: u8 = 1;
 pub const LATER_EDITION: u8 = 2;
 
 // The codes of a control frame: a start and a stop of RPC; under the later edition also power on and off.
+// They are numbers in their order, since a code is allowed up to the greatest of its edition, `most_control`.
 pub const START: u8 = 0;
 
 pub const STOP: u8 = 1;
@@ -19,7 +21,7 @@ const POWER_OFF: u8 = 3;
 pub fn is_edition(edition: u8) -> bool
     ensures { result ≡ is_edition edition }
 {
-    (edition == FIRST_EDITION) | (edition == LATER_EDITION)
+    edition == FIRST_EDITION || edition == LATER_EDITION
 }
 
 // The greatest code of a control frame.
@@ -27,7 +29,8 @@ pub fn most_control(edition: u8) -> u8
     ensures { result ≡ most_control edition }
 {
     if edition == LATER_EDITION {
-        return POWER_OFF;
+        POWER_OFF
+    } else {
+        STOP
     }
-    STOP
 }

@@ -1,119 +1,114 @@
-// The refusals of the link's calls, by their numbers: which records refusal 5 lets pass, and the others in their order.
+// The refusals of the link's calls: which records refusal 5 lets pass, and the others in their order.
 #![tactic(auto)]
 
-ghost use Rattle.std.specs.Prelude.{◌≡◌, ◌∷◌, true, false, cond, nat_le};
-ghost use Rattle.lists.specs.Checks.{first};
+ghost use Rattle.std.specs.Prelude.{◌≡◌, ◌∷◌, true, false, nat_le};
+ghost use Rattle.lists.specs.Checks.{first, ensured, number_by};
 ghost use Rattle.link_state.specs.Link.{by_phase};
 ghost use Rattle.link_refusals.specs.Sound.{fits_phase, fits_edition, holder_good, sound};
-ghost use Rattle.link_refusals.specs.Refusals.{shortest_buffer, checks, send_checks};
+ghost use Rattle.link_refusals.specs.Refusals.{refusal_number, shortest_buffer, checks, send_checks};
 
 use link_frames::Holder;
 use link_state::{FIRST_RATE, Link, Phase};
 
-// Whether the rest of a record goes with its phase.
-fn fits_phase(
-    phase: Phase,
-    dead: bool,
-    rpc: bool,
-    outstanding: bool,
-    rate: u32,
-    held: usize,
-) -> bool
-    ensures { result ≡ fits_phase phase dead rpc outstanding rate held }
-{
-    match phase {
-        Phase::Start => !dead & (!rpc & (!outstanding & ((rate == FIRST_RATE) & (held == 0)))),
-        Phase::Baud => !dead & (!rpc & (!outstanding & (rate == FIRST_RATE))),
-        Phase::Open => true,
+// Why a call is refused, with the number that the caller is told.
+#[derive(Clone, Copy, Debug, PartialEq, Eq)]
+pub enum Refusal {
+    // The record is none that a call gave, or of an edition that there is not: open a link anew.
+    Record = 5,
+    // The answer buffer is under 67 bytes.
+    AnswerBuffer = 8,
+    // The others are a send's. There is no connection yet.
+    NotOpen = 10,
+    RpcClosed = 11,
+    DeadTime = 12,
+    // A data frame of ours is not confirmed yet.
+    Unconfirmed = 13,
+    // The data is over 64 bytes.
+    TooLong = 14,
+}
+
+impl From<Refusal> for u8 {
+    ghost from_gives = { λ refusal number. number ≡ refusal_number refusal };
+
+    fn from(refusal: Refusal) -> u8 {
+        refusal as u8
     }
-}
-
-// Whether a record's edition is one, and power is on only under the later one, in Open.
-fn fits_edition(edition: u8, power: bool, phase: Phase) -> bool
-    ensures { result ≡ fits_edition edition power phase }
-{
-    link_frames::is_edition(edition)
-        & (!power | ((edition == link_frames::LATER_EDITION) & is_open(phase)))
-}
-
-// Whether what is held begins a longer good frame, with zeros behind it.
-fn holder_good(edition: u8, held: usize, kind: u8, frame: &Holder) -> bool
-    ensures { result ≡ holder_good edition held (kind ∷ frame.now) }
-{
-    if held <= link_frames::MOST_HELD {
-        if link_frames::zero_behind(held, kind, frame) {
-            return link_frames::is_begun(edition, held, kind, frame[0]);
-        }
-    }
-    false
-}
-
-// Whether refusal 5 lets the record pass.
-pub fn is_sound(link: Link) -> bool
-    ensures { result ≡ sound link }
-{
-    let phase = link.phase;
-    holder_good(link.edition, link.held, link.kind, &link.frame)
-        & (link_state::on_list(link.rate)
-            & (fits_phase(
-                phase,
-                link.dead,
-                link.rpc,
-                link.outstanding,
-                link.rate,
-                link.held,
-            ) & fits_edition(link.edition, link.power, phase)))
-}
-
-// Refusal 8: the buffer has no space for the longest frame.
-fn judge_buffer(buffer: usize) -> u8
-    ensures { result ≡ cond (nat_le shortest_buffer buffer) 0 8 }
-{
-    lists::check(link_frames::LONGEST_FRAME <= buffer, 8, 0)
-}
-
-// The refusals of pull, byte and poll; 0 where there is none. 5 judges the record as it came: every call gives it first, and whether
-// a record is sound does not hang on the clock.
-pub fn judge(link: Link, buffer: usize) -> u8
-    ensures { result ≡ first (checks link buffer) }
-{
-    lists::check(is_sound(link), 5, judge_buffer(buffer))
 }
 
 // Whether the phase is Open: only there can data be sent and power be on.
 fn is_open(phase: Phase) -> bool
     ensures { result ≡ by_phase phase false false true }
 {
-    match phase {
-        Phase::Start => false,
-        Phase::Baud => false,
+    matches!(phase, Phase::Open)
+}
+
+// Whether the rest of a record goes with its phase.
+#[tactic(auto, unfolding(crate::specs::Sound::fits_phase))]
+fn fits_phase(link: Link) -> bool
+    ensures { result ≡ fits_phase link.phase link.dead link.rpc link.outstanding link.rate link.held }
+{
+    let closed = !link.dead && !link.rpc && !link.outstanding && link.rate == FIRST_RATE;
+    match link.phase {
+        Phase::Start => closed && link.held == 0,
+        Phase::Baud => closed,
         Phase::Open => true,
     }
 }
 
-// The refusals of send; 5 judges the record as it came, as in every call, the others the record after the silence and dead time checks.
-pub fn judge_send(link: Link, later: Link, count: usize, buffer: usize) -> u8
-    ensures { result ≡ first (send_checks link later count buffer) }
+// Whether a record's edition is one, and power is on only under the later one, in Open.
+#[tactic(auto, unfolding(crate::specs::Sound::fits_edition))]
+fn fits_edition(link: Link) -> bool
+    ensures { result ≡ fits_edition link.edition link.power link.phase }
 {
-    let phase = later.phase;
-    let alive = !later.dead;
-    let free = !later.outstanding;
-    let count_good = count <= link_frames::MOST_DATA;
-    lists::check(
-        is_sound(link),
-        5,
-        lists::check(
-            is_open(phase),
-            10,
-            lists::check(
-                alive,
-                12,
-                lists::check(
-                    later.rpc,
-                    11,
-                    lists::check(free, 13, lists::check(count_good, 14, judge_buffer(buffer))),
-                ),
-            ),
-        ),
-    )
+    link_frames::is_edition(link.edition)
+        && (!link.power || (link.edition == link_frames::LATER_EDITION && is_open(link.phase)))
+}
+
+// Whether what is held begins a longer good frame, with zeros behind it.
+fn holder_good(edition: u8, held: usize, kind: u8, frame: &Holder) -> bool
+    ensures { result ≡ holder_good edition held (kind ∷ frame.now) }
+{
+    held <= link_frames::MOST_HELD
+        && link_frames::zero_behind(held, kind, frame)
+        && link_frames::is_begun(edition, held, kind, frame[0])
+}
+
+// Whether refusal 5 lets the record pass.
+#[tactic(auto, unfolding(crate::specs::Sound::sound))]
+pub fn is_sound(link: Link) -> bool
+    ensures { result ≡ sound link }
+{
+    holder_good(link.edition, link.held, link.kind, &link.frame)
+        && link_state::on_list(link.rate)
+        && fits_phase(link)
+        && fits_edition(link)
+}
+
+// Refusal 8: the buffer has no space for the longest frame.
+fn judge_buffer(buffer: usize) -> Result<(), Refusal>
+    ensures { result ≡ ensured (nat_le shortest_buffer buffer) Refusal.AnswerBuffer }
+{
+    lists::ensure(link_frames::LONGEST_FRAME <= buffer, Refusal::AnswerBuffer)
+}
+
+// The refusals of pull, byte and poll. 5 judges the record as it came: every call gives it first, and whether a record is sound does
+// not hang on the clock.
+pub fn judge(link: Link, buffer: usize) -> Result<(), Refusal>
+    ensures { number_by refusal_number result ≡ first (checks link buffer) }
+{
+    lists::ensure(is_sound(link), Refusal::Record)?;
+    judge_buffer(buffer)
+}
+
+// The refusals of send; 5 judges the record as it came, as in every call, the others the record after the silence and dead time checks.
+pub fn judge_send(link: Link, later: Link, count: usize, buffer: usize) -> Result<(), Refusal>
+    ensures { number_by refusal_number result ≡ first (send_checks link later count buffer) }
+{
+    lists::ensure(is_sound(link), Refusal::Record)?;
+    lists::ensure(is_open(later.phase), Refusal::NotOpen)?;
+    lists::ensure(!later.dead, Refusal::DeadTime)?;
+    lists::ensure(later.rpc, Refusal::RpcClosed)?;
+    lists::ensure(!later.outstanding, Refusal::Unconfirmed)?;
+    lists::ensure(count <= link_frames::MOST_DATA, Refusal::TooLong)?;
+    judge_buffer(buffer)
 }

@@ -11,7 +11,7 @@ const DEAD_TIME: u32 = 25;
 pub fn since(last: u32, tick: u32) -> u32
     ensures { result ≡ elapsed last tick }
 {
-    std::num::wrapping_sub_u32(tick, last)
+    tick.wrapping_sub(last)
 }
 
 // Whether it is too long since the last activity.
@@ -25,5 +25,5 @@ pub fn silent(last: u32, tick: u32) -> bool
 pub fn still_dead(dead: bool, last: u32, tick: u32) -> bool
     ensures { result ≡ still_dead dead last tick }
 {
-    dead & (since(last, tick) < DEAD_TIME)
+    dead && since(last, tick) < DEAD_TIME
 }

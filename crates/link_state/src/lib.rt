@@ -55,51 +55,57 @@ pub struct Link {
     pub frame: Holder,
 }
 
-// The record at the start of a phase.
-pub fn enter(edition: u8, phase: Phase, rate: u32, last: u32, dead: bool) -> Link
-    ensures { result ≡ entering edition phase rate last dead }
+// A fresh record of an edition, which a return to Start gives: nothing is held.
+pub fn restart(edition: u8) -> Link
+    ensures { result ≡ fresh edition }
 {
+    let frame = [0u8; link_frames::MOST_CONTENTS];
     Link {
         edition,
         power: false,
-        phase,
-        rate,
-        last,
-        dead,
+        phase: Phase::Start,
+        rate: FIRST_RATE,
+        last: 0,
+        dead: false,
         rpc: false,
         outstanding: false,
         held: 0,
         kind: 0,
-        frame: [0u8; link_frames::MOST_CONTENTS],
+        frame,
     }
 }
 
-// A fresh record of an edition, which a return to Start gives.
-pub fn restart(edition: u8) -> Link
-    ensures { result ≡ fresh edition }
+// The record at the start of a phase: the parameters are the fields that a start sets.
+pub fn enter(edition: u8, phase: Phase, rate: u32, last: u32, dead: bool) -> Link
+    ensures { result ≡ entering edition phase rate last dead }
 {
-    enter(edition, Phase::Start, FIRST_RATE, 0, false)
+    Link {
+        phase,
+        rate,
+        last,
+        dead,
+        ..restart(edition)
+    }
 }
 
 // The record after a whole frame: the holder is at rest again.
 pub fn renew(link: Link, tick: u32) -> Link
     ensures { result ≡ renewed link tick }
 {
-    let mut next = link;
-    next.last = tick;
-    next.held = 0;
-    next.kind = 0;
-    next.frame = [0u8; link_frames::MOST_CONTENTS];
-    next
+    Link {
+        last: tick,
+        held: 0,
+        kind: 0,
+        frame: [0u8; link_frames::MOST_CONTENTS],
+        ..link
+    }
 }
 
 // The rates that this end can run at.
 pub fn on_list(rate: u32) -> bool
     ensures { result ≡ on_list rate }
 {
-    (rate == FIRST_RATE)
-        | ((rate == 19200)
-            | ((rate == 38400) | ((rate == 57600) | ((rate == 115200) | (rate == 230400)))))
+    matches!(rate, FIRST_RATE | 19200 | 38400 | 57600 | 115200 | 230400)
 }
 
 // Whether the link is lost to silence; in Start there is nothing to lose.
@@ -108,8 +114,7 @@ pub fn is_lost(phase: Phase, last: u32, tick: u32) -> bool
 {
     match phase {
         Phase::Start => false,
-        Phase::Baud => clock::silent(last, tick),
-        Phase::Open => clock::silent(last, tick),
+        Phase::Baud | Phase::Open => clock::silent(last, tick),
     }
 }
 
@@ -117,16 +122,18 @@ pub fn is_lost(phase: Phase, last: u32, tick: u32) -> bool
 pub fn after_checks(link: Link, tick: u32) -> Link
     ensures { result ≡ checked link tick }
 {
-    let phase = link.phase;
-    if is_lost(phase, link.last, tick) {
-        return restart(link.edition);
+    if is_lost(link.phase, link.last, tick) {
+        restart(link.edition)
+    } else {
+        Link {
+            dead: clock::still_dead(link.dead, link.last, tick),
+            ..link
+        }
     }
-    let mut next = link;
-    next.dead = clock::still_dead(link.dead, link.last, tick);
-    next
 }
 
-// What opening a link gives.
+// What opening a link gives. It is no Result: the record comes with 18 too, one of the edition that was asked for, as
+// `link_claims::OpeningIs` says.
 #[derive(Clone, Copy)]
 pub struct Opening {
     // 0, or 18 where there is no such edition.
@@ -139,7 +146,11 @@ pub struct Opening {
 pub fn new(edition: u8) -> Opening
     ensures { result ≡ opening edition }
 {
-    let refusal = lists::check(link_frames::is_edition(edition), UNKNOWN_EDITION, 0);
+    let refusal = if link_frames::is_edition(edition) {
+        0
+    } else {
+        UNKNOWN_EDITION
+    };
     let link = restart(edition);
     Opening { refusal, link }
 }

@@ -1,34 +1,87 @@
-// The operations, by their names in the table: the calls, of which `POLL` is the last, and then what is read off.
+// The operations, by their names in the table.
+ghost use Rattle.std.specs.Prelude.{◌≡◌};
+ghost use Rattle.tables.specs.Rows.{Names_by};
+ghost use Rattle.link_vectors.specs.Names.{name_of};
 
-// Each name has the number of its place here.
-pub const NAMES: [u8; 79] = *b"\
-    open\tpull\trepull\thear\tsend\trecord\tpoll\t\
-    rate\tphase\tsent\thanded\theard\tlost\tpower\t";
+use tables::Named;
 
-pub const OPEN: u8 = 0;
+// What is done with a link, in one call.
+#[derive(Clone, Copy)]
+pub enum Call {
+    Pull,
+    Repull,
+    Send,
+    Record,
+    Poll,
+}
 
-pub const PULL: u8 = 1;
+// What is read off a link and its last call.
+#[derive(Clone, Copy)]
+pub enum Reading {
+    Rate,
+    Phase,
+    Sent,
+    Handed,
+    Heard,
+    Lost,
+    Power,
+}
 
-pub const REPULL: u8 = 2;
+#[derive(Clone, Copy)]
+pub enum Operation {
+    Open,
+    Hear,
+    Call(Call),
+    Read(Reading),
+}
 
-pub const HEAR: u8 = 3;
+const ALL: [Operation; 14] = [
+    Operation::Open,
+    Operation::Hear,
+    Operation::Call(Call::Pull),
+    Operation::Call(Call::Repull),
+    Operation::Call(Call::Send),
+    Operation::Call(Call::Record),
+    Operation::Call(Call::Poll),
+    Operation::Read(Reading::Rate),
+    Operation::Read(Reading::Phase),
+    Operation::Read(Reading::Sent),
+    Operation::Read(Reading::Handed),
+    Operation::Read(Reading::Heard),
+    Operation::Read(Reading::Lost),
+    Operation::Read(Reading::Power),
+];
 
-pub const SEND: u8 = 4;
+impl Operation {
+    fn name(self) -> &'static [u8]
+        ensures { result.now ≡ name_of self }
+    {
+        match self {
+            Operation::Open => b"open",
+            Operation::Hear => b"hear",
+            Operation::Call(Call::Pull) => b"pull",
+            Operation::Call(Call::Repull) => b"repull",
+            Operation::Call(Call::Send) => b"send",
+            Operation::Call(Call::Record) => b"record",
+            Operation::Call(Call::Poll) => b"poll",
+            Operation::Read(Reading::Rate) => b"rate",
+            Operation::Read(Reading::Phase) => b"phase",
+            Operation::Read(Reading::Sent) => b"sent",
+            Operation::Read(Reading::Handed) => b"handed",
+            Operation::Read(Reading::Heard) => b"heard",
+            Operation::Read(Reading::Lost) => b"lost",
+            Operation::Read(Reading::Power) => b"power",
+        }
+    }
+}
 
-pub const RECORD: u8 = 5;
+impl Named for Operation {
+    ghost names = { Names_by name_of };
 
-pub const POLL: u8 = 6;
-
-pub const RATE: u8 = 7;
-
-pub const PHASE: u8 = 8;
-
-pub const SENT: u8 = 9;
-
-pub const HANDED: u8 = 10;
-
-pub const HEARD: u8 = 11;
-
-pub const LOST: u8 = 12;
-
-pub const POWER: u8 = 13;
+    // Not a `match`, of whose byte strings a proof learns the lengths alone.
+    fn named(name: &[u8]) -> Option<Operation> {
+        ALL.iter()
+            .find(|operation| lists::same(operation.name(), name))
+            .copied()
+    }
+}

@@ -1,213 +1,170 @@
 // The operations on a link.
-use crate::names;
-use link::{Event, Link, Next, Payload, Phase};
-use tables::part;
+use crate::names::{Call, Operation, Reading};
+use link::{Event, Link, Next, Payload};
+use tables::{Runner, part, put, put_word};
 
-// What events are shown as.
-const NOTHING: u8 = 0x00;
+// The answer buffer, and more than the longest frame.
+pub const MOST: usize = 128;
 
-const OPENED: u8 = 0x01;
+// What the last call told: a link that was opened, with the number of its refusal where there is one, or an event.
+#[derive(Clone, Copy)]
+enum Said {
+    Opening(Option<u8>),
+    Event(Event),
+}
 
-const HANDED: u8 = 0x02;
-
-const CONFIRMED: u8 = 0x03;
-
-const FAILED: u8 = 0x04;
-
-const WRONG: u8 = 0x05;
-
-const REFUSED: u8 = 0x06;
-
-const POWERED: u8 = 0x07;
-
-// A link, and of its last call the event, with the status, number or power state that it tells, the bytes of data that it handed over, and
-// how many it sent; and how many bytes of its row were heard up to it, and whether one of the row's calls told that the link was lost.
+// A link, the buffer of its answers, and of its last call what it told, the bytes of data that it handed over, and how many it sent; how
+// many bytes of its row were heard up to it, and whether one of the row's calls told that the link was lost.
 #[derive(Clone, Copy)]
 pub struct Probe {
     link: Link,
-    event: u8,
-    detail: u8,
-    handed: usize,
+    answer: [u8; MOST],
+    said: Said,
     bytes: Payload,
     sent: usize,
     heard: usize,
     lost: bool,
 }
 
-// An event's number, the status, number or power state that it tells, and how many bytes it hands over.
-#[derive(Clone, Copy)]
-struct Told {
-    event: u8,
-    detail: u8,
-    handed: usize,
-}
-
 // A byte of a row, 0 past its end.
 fn byte_at(bytes: &[u8], at: usize) -> u8 {
-    if at < bytes.len() { bytes[at] } else { 0 }
-}
-
-// A link opened for an edition, which the number of its refusal tells.
-fn opened(edition: u8) -> Probe {
-    let opening = link::new(edition);
-    let link = opening.link;
-    let refusal = opening.refusal;
-    let event = if refusal == 0 { NOTHING } else { REFUSED };
-    Probe {
-        link,
-        event,
-        detail: refusal,
-        handed: 0,
-        bytes: [0u8; link_frames::MOST_DATA],
-        sent: 0,
-        heard: 0,
-        lost: false,
-    }
-}
-
-pub fn new() -> Probe {
-    opened(link::FIRST_EDITION)
-}
-
-// An event that hands no data over.
-fn plain(event: u8, detail: u8) -> Told {
-    Told {
-        event,
-        detail,
-        handed: 0,
-    }
-}
-
-fn told_of(event: Event) -> Told {
-    match event {
-        Event::Nothing => plain(NOTHING, 0),
-        Event::Opened(_) => plain(OPENED, 0),
-        Event::Handed(handed) => Told {
-            event: HANDED,
-            detail: 0,
-            handed,
-        },
-        Event::Confirmed => plain(CONFIRMED, 0),
-        Event::Failed(status) => plain(FAILED, status),
-        Event::Powered(on) => plain(POWERED, on as u8),
-        Event::DetectedError => plain(WRONG, 0),
-        Event::Refused(number) => plain(REFUSED, number),
-    }
-}
-
-// A call, with which so many bytes of its row are heard; `lost` is whether a call of the row before it told a loss.
-fn after(next: Next, heard: usize, lost: bool) -> Probe {
-    let link = next.link;
-    let told = next.told;
-    let event = told.event;
-    let bytes = told.bytes;
-    let numbers = told_of(event);
-    Probe {
-        link,
-        event: numbers.event,
-        detail: numbers.detail,
-        handed: numbers.handed,
-        bytes,
-        sent: told.sent,
-        heard,
-        lost: lost | told.lost,
-    }
-}
-
-// Bytes heard at one tick, up to the one that shows an error. The first one's call can tell that the link was lost; this is kept over
-// the others' calls.
-fn hear(probe: Probe, bytes: &[u8], tick: u32, got: &mut [u8]) -> Probe {
-    let mut state = probe;
-    state.lost = false;
-    let mut i: usize = 0;
-    while i < bytes.len() {
-        let next = link::byte(state.link, bytes[i], tick, got);
-        i += 1;
-        state = after(next, i, state.lost);
-        if state.event == WRONG {
-            return state;
-        }
-    }
-    state
+    bytes.get(at).copied().unwrap_or(0)
 }
 
 // A fresh link of an edition.
 fn fresh(edition: u8) -> Link {
-    let opening = link::new(edition);
-    opening.link
+    link::new(edition).link
 }
 
 // A poll of the link as it stands, but for its edition and its power, which are two of the bytes.
-fn poll_record(link: Link, bytes: &[u8], tick: u32, got: &mut [u8]) -> Next {
+fn poll_record(link: Link, bytes: &[u8], tick: u32, answer: &mut [u8]) -> Next {
     let mut record = link;
     record.edition = byte_at(bytes, 0);
     record.power = byte_at(bytes, 1) == 1;
-    link::poll(record, tick, got)
+    link::poll(record, tick, answer)
 }
 
-// A pull of a fresh link of the same edition or of the link as it stands, data that is sent, or a poll.
-fn call_once(operation: u8, link: Link, bytes: &[u8], tick: u32, got: &mut [u8]) -> Next {
-    match operation {
-        names::PULL => link::pull(fresh(link.edition), tick, got),
-        names::REPULL => link::pull(link, tick, got),
-        names::SEND => link::send(link, bytes, tick, got),
-        names::RECORD => poll_record(link, bytes, tick, got),
-        _ => link::poll(link, tick, got),
-    }
-}
-
-// The calls of a link, where the operation is one, at the tick that the first four bytes are; a link is opened at none.
-pub fn call(probe: Probe, operation: u8, input: &[u8], got: &mut [u8]) -> Probe {
-    if names::POLL < operation {
-        return probe;
-    }
-    if operation == names::OPEN {
-        return opened(byte_at(input, 0));
-    }
-    let tick = fields::word_at(input, 0);
-    let bytes = part(input, 4, input.len());
-    if operation == names::HEAR {
-        return hear(probe, bytes, tick, got);
-    }
-    after(call_once(operation, probe.link, bytes, tick, got), 0, false)
-}
-
-fn phase_of(link: Link) -> u8 {
-    let phase = link.phase;
-    match phase {
-        Phase::Start => 0x00,
-        Phase::Baud => 0x01,
-        Phase::Open => 0x02,
+// An event, with the status of a failure, the number of a refusal or the power state.
+fn put_event(event: Event, got: &mut [u8]) -> usize {
+    match event {
+        Event::Nothing => put(&[0x00], got),
+        Event::Opened(_) => put(&[0x01], got),
+        Event::Handed(_) => put(&[0x02], got),
+        Event::Confirmed => put(&[0x03], got),
+        Event::Failed(status) => put(&[0x04, status], got),
+        Event::DetectedError => put(&[0x05], got),
+        Event::Refused(refusal) => put(&[0x06, refusal.into()], got),
+        Event::Powered(on) => put(&[0x07, on as u8], got),
     }
 }
 
-// The event at the front of `told`, and behind it the status of a failure, the number of a refusal or the power state; how many bytes that is.
-fn put_event(event: u8, detail: u8, told: &mut [u8]) -> usize {
-    let two = [event, detail];
-    lists::copy_at(told, 0, &two);
-    if (event == FAILED) | (event == REFUSED) | (event == POWERED) {
-        return 2;
+fn put_said(said: Said, got: &mut [u8]) -> usize {
+    match said {
+        Said::Opening(None) => put(&[0x00], got),
+        Said::Opening(Some(number)) => put(&[0x06, number], got),
+        Said::Event(event) => put_event(event, got),
     }
-    1
 }
 
-// What is read off a link and its last call, which sent the bytes at the front of `answer`, at the front of `told`; how many bytes
-// that is.
-pub fn read_off(operation: u8, probe: Probe, answer: &[u8], told: &mut [u8]) -> usize {
-    match operation {
-        names::RATE => tables::put_word(probe.link.rate, told),
-        names::PHASE => tables::put_byte(phase_of(probe.link), told),
-        names::SENT => {
-            lists::copy_at(told, 0, part(answer, 0, probe.sent));
-            probe.sent
+impl Probe {
+    // A link that is open for the first edition.
+    pub fn new() -> Probe {
+        Probe {
+            link: fresh(link::FIRST_EDITION),
+            answer: [0; MOST],
+            said: Said::Opening(None),
+            bytes: [0; link_frames::MOST_DATA],
+            sent: 0,
+            heard: 0,
+            lost: false,
         }
-        names::HANDED => {
-            lists::copy_at(told, 0, part(&probe.bytes, 0, probe.handed));
-            probe.handed
+    }
+
+    fn open(&mut self, edition: u8) {
+        let opening = link::new(edition);
+        self.link = opening.link;
+        self.said = Said::Opening((opening.refusal != 0).then_some(opening.refusal));
+        self.bytes = [0; link_frames::MOST_DATA];
+        self.sent = 0;
+        self.heard = 0;
+        self.lost = false;
+    }
+
+    // Keeps what a call handed back.
+    fn keep(&mut self, next: Next) {
+        let told = next.told;
+        let bytes = told.bytes;
+        self.link = next.link;
+        self.said = Said::Event(told.event);
+        self.bytes = bytes;
+        self.sent = told.sent;
+        self.lost |= told.lost;
+    }
+
+    // Bytes heard at one tick, up to the one that shows an error. The first one's call can tell that the link was lost; this is kept over
+    // the others' calls.
+    fn hear(&mut self, bytes: &[u8], tick: u32) {
+        self.lost = false;
+        for (i, byte) in bytes.iter().enumerate() {
+            let next = link::byte(self.link, *byte, tick, &mut self.answer);
+            self.keep(next);
+            self.heard = i + 1;
+            if let Said::Event(Event::DetectedError) = self.said {
+                return;
+            }
         }
-        names::HEARD => tables::put_word((probe.heard % 256) as u32, told),
-        names::LOST => tables::put_byte(probe.lost as u8, told),
-        names::POWER => tables::put_byte(probe.link.power as u8, told),
-        _ => put_event(probe.event, probe.detail, told),
+    }
+
+    // A pull of a fresh link of the same edition or of the link as it stands, data that is sent, or a poll.
+    fn call(&mut self, call: Call, bytes: &[u8], tick: u32) {
+        let link = self.link;
+        let answer = &mut self.answer;
+        let next = match call {
+            Call::Pull => link::pull(fresh(link.edition), tick, answer),
+            Call::Repull => link::pull(link, tick, answer),
+            Call::Send => link::send(link, bytes, tick, answer),
+            Call::Record => poll_record(link, bytes, tick, answer),
+            Call::Poll => link::poll(link, tick, answer),
+        };
+        self.lost = false;
+        self.keep(next);
+        self.heard = 0;
+    }
+
+    // How many bytes of data the last call handed over.
+    fn handed(&self) -> usize {
+        match self.said {
+            Said::Event(Event::Handed(count)) => count,
+            _ => 0,
+        }
+    }
+
+    fn read(&self, reading: Reading, got: &mut [u8]) -> usize {
+        match reading {
+            Reading::Rate => put_word(self.link.rate, got),
+            Reading::Phase => put(&[self.link.phase as u8], got),
+            Reading::Sent => put(part(&self.answer, 0, self.sent), got),
+            Reading::Handed => put(part(&self.bytes, 0, self.handed()), got),
+            Reading::Heard => put_word((self.heard % 256) as u32, got),
+            Reading::Lost => put(&[self.lost as u8], got),
+            Reading::Power => put(&[self.link.power as u8], got),
+        }
+    }
+}
+
+impl Runner for Probe {
+    type Operation = Operation;
+
+    // The calls are at the tick that the first four bytes are; a link is opened at none.
+    fn run(&mut self, operation: Operation, input: &[u8], got: &mut [u8]) -> usize {
+        let tick = fields::word_at(input, 0);
+        let bytes = part(input, 4, input.len());
+        match operation {
+            Operation::Open => self.open(byte_at(input, 0)),
+            Operation::Hear => self.hear(bytes, tick),
+            Operation::Call(call) => self.call(call, bytes, tick),
+            Operation::Read(reading) => return self.read(reading, got),
+        }
+        put_said(self.said, got)
     }
 }

@@ -1,6 +1,5 @@
 -- The listing's columns in ASCII: "fields parted by tabs".
-use Rattle.std.specs.Prelude.{ℕ, ◌-◌, ◌≡◌, List, [], ◌∷◌, ◌++◌, length, take, drop, replicate}
-use Rattle.listing_columns.specs.declared.DroppedFields.{DroppedFields}
+use Rattle.std.specs.Prelude.{ℕ, List, [], ◌∷◌, ◌++◌}
 
 abbrev tab : ℕ
 tab = 9
@@ -23,9 +22,3 @@ fields_of command status error = (tab ∷ command) ++ ((tab ∷ status) ++ ((tab
 -- "--"
 abbrev pub dashes : List ℕ
 dashes = 45 ∷ 45 ∷ []
-
--- a text at the front of the fields' bytes, its length told, and zeros behind it
-pub record Holds (text : List ℕ) (r : DroppedFields) : Type 0 where
-  pub count : r.count ≡ length text
-  pub front : take r.count r.bytes ≡ text
-  pub rest : drop r.count r.bytes ≡ replicate (13 - r.count) 0

@@ -6,7 +6,7 @@ ghost use Rattle.digits.specs.Hex.{hex2};
 ghost use Rattle.slip_unframing.specs.Reasons.{letters};
 ghost use Rattle.esp_commands.specs.Status.{status_of};
 ghost use Rattle.listing_columns.specs.Columns.{heading as Columns·heading};
-ghost use Rattle.listing_columns.specs.Columns.{fields_of, dashes, Holds};
+ghost use Rattle.listing_columns.specs.Columns.{fields_of, dashes};
 
 use digits::hex;
 use esp_commands::status_of;
@@ -20,13 +20,6 @@ const LINE_FEED: u8 = b'\n';
 pub type HeadingBytes = [u8; 24];
 
 pub type RowFields = [u8; 10];
-
-// What stands behind the number of a dropped packet: so many bytes from the front.
-#[derive(Clone, Copy)]
-pub struct DroppedFields {
-    pub bytes: [u8; 13],
-    pub count: usize,
-}
 
 // The listing's first line.
 pub fn heading() -> HeadingBytes
@@ -46,29 +39,14 @@ pub fn read_fields(command: u8, error: u8) -> RowFields
 }
 
 // What follows the number of a packet that was dropped.
-pub fn dropped_fields(reason: Reason) -> DroppedFields
-    ensures { Holds (fields_of dashes dashes (letters reason)) result }
+pub fn dropped_fields(reason: Reason) -> &'static [u8]
+    ensures { result.now ≡ fields_of dashes dashes (letters reason) }
 {
     match reason {
-        Reason::BadEscape => DroppedFields {
-            bytes: *b"\t--\t--\tESC\n\0\0",
-            count: 11,
-        },
-        Reason::CutEscape => DroppedFields {
-            bytes: *b"\t--\t--\tCUT\n\0\0",
-            count: 11,
-        },
-        Reason::TooLong => DroppedFields {
-            bytes: *b"\t--\t--\tLONG\n\0",
-            count: 12,
-        },
-        Reason::TooShort => DroppedFields {
-            bytes: *b"\t--\t--\tSHORT\n",
-            count: 13,
-        },
-        Reason::WrongDirection => DroppedFields {
-            bytes: *b"\t--\t--\tDIR\n\0\0",
-            count: 11,
-        },
+        Reason::BadEscape => b"\t--\t--\tESC\n",
+        Reason::CutEscape => b"\t--\t--\tCUT\n",
+        Reason::TooLong => b"\t--\t--\tLONG\n",
+        Reason::TooShort => b"\t--\t--\tSHORT\n",
+        Reason::WrongDirection => b"\t--\t--\tDIR\n",
     }
 }

@@ -1,13 +1,11 @@
 -- "It prints a heading and a line for each closed packet, fields parted by tabs, hex in upper case." "the listing shows ESC, CUT, LONG, SHORT or DIR as its last field, with `--` in the two before."
-use Rattle.std.specs.Prelude.{ℕ, ◌+◌, ◌≡◌, List, [], ◌++◌, Bool, cond, length, nat_le}
+use Rattle.std.specs.Prelude.{ℕ, ◌+◌, ◌≡◌, List, [], ◌++◌, Bool, cond, length, nat_le, Option, Some, None}
 use Rattle.lists.specs.Lay.{lay}
 use Rattle.slip_unframing.specs.Reasons.{letters}
 use Rattle.loader_act.specs.Told.{Told, refused, taken, dropped, answered}
 use Rattle.digits.specs.Hex.{hex2}
 use Rattle.listing_columns.specs.Columns.{fields_of, dashes}
 use Rattle.listing_lines.specs.Numbers.{decimal}
-use Rattle.listing_lines.specs.declared.Written.{Written}
-use Rattle.listing_lines.specs.declared.Written.TheVariants.{Full, Used}
 
 -- the line of a call: none where it closes no packet; that of a dropped one has the reason in the error's place
 unfoldable pub line_of : ℕ → Told → List ℕ
@@ -35,11 +33,11 @@ pub data WriteReport : Type 0 where
   no_space : WriteReport
   filled : ℕ → WriteReport
 
-abbrev pub write_report : Written → WriteReport
-write_report Full = no_space
-write_report (Used n) = filled n
+abbrev pub write_report : Option ℕ → WriteReport
+write_report None = no_space
+write_report (Some n) = filled n
 
 -- the same where every line fits; elsewhere it is said that there is no space, and the buffer stays
-pub record Writes (text buffer : List ℕ) (used : ℕ) (r : Written) (after : List ℕ) : Type 0 where
+pub record Writes (text buffer : List ℕ) (used : ℕ) (r : Option ℕ) (after : List ℕ) : Type 0 where
   pub says : write_report r ≡ cond (has_space (length buffer) used) (filled (used + length text)) no_space
   pub leaves : after ≡ cond (has_space (length buffer) used) (lay buffer used text) buffer

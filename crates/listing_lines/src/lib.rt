@@ -13,63 +13,27 @@ use loader_act::Answer;
 // The bytes that hold every line: a number of 20 digits, and 13 bytes.
 pub const LONGEST_LINE: usize = 33;
 
-// What `line` says.
-#[derive(Clone, Copy)]
-pub enum Written {
-    // fewer than 33 bytes are left in the buffer: nothing is written
-    Full,
-    // the line is written, and so many bytes of the buffer are used
-    Used(usize),
-}
-
-// ---- numbers
-
-// A digit below 10.
-fn decimal_digit(d: u64) -> u8
-    requires { d < 10 }
-    ensures { result ≡ 48 + d }
-{
-    b'0' + d as u8
-}
-
-// A number in decimal from `at` on; the next place.
-fn put_decimal(number: u64, buffer: &mut [u8], at: usize) -> usize
-    requires { at + length (decimal number) ≤ length buffer.old }
-    ensures { (result ≡ at + length (decimal number)) × (buffer.new ≡ lay buffer.old at (decimal number)) }
-{
-    if number < 10 {
-        buffer[at] = decimal_digit(number);
-        return at + 1;
-    }
-    let last = put_decimal(number / 10, buffer, at);
-    buffer[last] = decimal_digit(number % 10);
-    last + 1
-}
-
-// ---- lines
-
 // A line of a number and the fields behind it, from `used` on, where the buffer has the space; how many bytes are used then.
 fn write_row(number: u64, fields: &[u8], buffer: &mut [u8], used: usize) -> usize
     requires { used + (length (decimal number) + length fields.now) ≤ length buffer.old }
     ensures { (result ≡ used + length (decimal number ++ fields.now))
         × (buffer.new ≡ lay buffer.old used (decimal number ++ fields.now)) }
 {
-    let at = put_decimal(number, buffer, used);
-    lists::copy_at(buffer, at, fields);
-    at + fields.len()
+    // std's `write!` into a slice promises no bytes, and that into a `fmt::Write` not that it succeeds
+    let mut text = itoa::Buffer::new();
+    let digits = text.format(number).as_bytes();
+    let at = used + digits.len();
+    let end = at + fields.len();
+    buffer[used..at].copy_from_slice(digits);
+    buffer[at..end].copy_from_slice(fields);
+    end
 }
 
 // Every line fits behind the used bytes of a buffer.
 pub fn has_space(length: usize, used: usize) -> bool
     ensures { result ≡ has_space length used }
 {
-    if length < LONGEST_LINE {
-        return false;
-    }
-    if length - LONGEST_LINE < used {
-        return false;
-    }
-    true
+    LONGEST_LINE <= length && used <= length - LONGEST_LINE
 }
 
 // The line of a call of the loader, behind the used bytes of a buffer; how many are used then.
@@ -78,32 +42,21 @@ fn put_line(number: u64, answer: Answer, buffer: &mut [u8], used: usize) -> usiz
     ensures { Appends (line_of number (told answer)) buffer.old used result buffer.new }
 {
     match answer {
-        Answer::Refused(_) => used,
-        Answer::Taken => used,
-        Answer::Dropped { stored: _, reason } => {
-            let fields = dropped_fields(reason);
-            let bytes = fields.bytes;
-            write_row(number, &bytes[..fields.count], buffer, used)
-        }
-        Answer::Answered {
-            stored: _,
-            command,
-            error,
-            sent: _,
-            note: _,
-        } => {
-            let fields = read_fields(command, error);
-            write_row(number, &fields, buffer, used)
+        Answer::Refused(_) | Answer::Taken => used,
+        Answer::Dropped { reason, .. } => write_row(number, dropped_fields(reason), buffer, used),
+        Answer::Answered { command, error, .. } => {
+            write_row(number, &read_fields(command, error), buffer, used)
         }
     }
 }
 
-// The line of a call of the loader, behind the used bytes of a buffer.
-pub fn line(number: u64, answer: Answer, buffer: &mut [u8], used: usize) -> Written
+// The line of a call of the loader, behind the used bytes of a buffer; how many are used then. Where fewer than 33 bytes are left, nothing
+// is written, and that is none. The buffer is lent whole beside `used`, since `Writes` says of all of it what it holds at exit.
+pub fn line(number: u64, answer: Answer, buffer: &mut [u8], used: usize) -> Option<usize>
     ensures { Writes (line_of number (told answer)) buffer.old used result buffer.new }
 {
-    if has_space(buffer.len(), used) {
-        return Written::Used(put_line(number, answer, buffer, used));
+    if !has_space(buffer.len(), used) {
+        return None;
     }
-    Written::Full
+    Some(put_line(number, answer, buffer, used))
 }

@@ -7,21 +7,23 @@ use Rattle.loader_run.specs.declared.RunFed.{RunFed}
 use Rattle.listing_lines.specs.Lines.{line_of, longest_line, has_space, Appends}
 use Rattle.listing_report.specs.Listing.{not_fed, listed, list_report, number_after, report_of, ListStep, full, listed_by, list_step, Lists}
 use Rattle.listing_report.specs.declared.Listing.{Listing}
-use Rattle.listing_report.specs.declared.Listed.{Listed}
-use Rattle.listing_report.specs.declared.Listed.TheVariants.{Full, Fed}
+use Rattle.std.specs.Prelude.{Result, Err}
+use Rattle.listing_report.specs.declared.Fed.{Fed}
+use Rattle.listing_report.specs.declared.ListError.{ListError}
+use Rattle.listing_report.specs.declared.ListError.TheVariants.{NoSpace}
 
 -- a call of the loader is never told as a run that was not fed
 report-fed : (t : Told) (next : Listing) (u k : ℕ) {A : Type 0} → report_of t next u k ≡ not_fed → A
 unfolding report_of
-report-fed (refused n) next u k e = let z : ◌≡◌ {A = ℕ} 0 1 = cc in absurd (omega arith)
-report-fed taken next u k e = let z : ◌≡◌ {A = ℕ} 0 1 = cc in absurd (omega arith)
-report-fed (dropped n w) next u k e = let z : ◌≡◌ {A = ℕ} 0 1 = cc in absurd (omega arith)
-report-fed (answered n c s e' m o) next u k e = let z : ◌≡◌ {A = ℕ} 0 1 = cc in absurd (omega arith)
+report-fed (refused n) next u k e = cc
+report-fed taken next u k e = cc
+report-fed (dropped n w) next u k e = cc
+report-fed (answered n c s e' m o) next u k e = cc
 
 -- what is told as used is what was used
 report-used : (t : Told) (next after : Listing) (u k n m : ℕ) → report_of t next u k ≡ listed after n m → n ≡ u
 unfolding report_of
-report-used (refused i) next after u k n m e = let z : ◌≡◌ {A = ℕ} 0 1 = cc in absurd (omega arith)
+report-used (refused i) next after u k n m e = cc
 report-used taken next after u k n m e = cc
 report-used (dropped i w) next after u k n m e = cc
 report-used (answered i c s e' j o) next after u k n m e = cc
@@ -38,22 +40,28 @@ module _ (l : Listing) (run packet answer flash words text : List ℕ) (used : �
   full_at true h e = report-fed fed.step.told _ _ _ e
   full_at false h e = leb-false _ _ h
 
-  -- where the text is said to be full, fewer than 33 bytes are left
-  pub full_where : {r : Listed} → list_report r ≡ (list_step l run packet answer flash words text used).said → r ≡ Full → length text < used + longest_line
+  full-where : (list_step l run packet answer flash words text used).said ≡ not_fed → length text < used + longest_line
   unfolding list_step
-  full_where e f = full_at (has_space (length text) used) refl (sym e ∙ ap list_report f)
+  full-where e = full_at (has_space (length text) used) refl e
+
+  -- where the text is said to be full, fewer than 33 bytes are left
+  pub full_where :
+      {r : Result Fed ListError} {packet' answer' flash' words' text' : List ℕ}
+      → Lists (list_step l run packet answer flash words text used) r packet' answer' flash' words' text'
+      → r ≡ Err NoSpace → length text < used + longest_line
+  full_where h is = full-where (sym h.says ∙ ap list_report is)
 
   module _ (next : Listing) (n m : ℕ) (after : List ℕ) (k : length after ≡ length text) (u : used ≤ length text) where
     fed-at : (t : Bool) → (outcome t).said ≡ listed next n m → after ≡ (outcome t).text → n ≤ length text
     unfolding listed_by full lay
     fed-at true e g = let u' : n ≡ used + length (line_of l.number fed.step.told) = report-used fed.step.told _ next _ _ n m e in omega (arith, simp (length-append, length-take) at (ap length g))
-    fed-at false e g = let z : ◌≡◌ {A = ℕ} 0 1 = cc in absurd (omega arith)
+    fed-at false e g = cc
 
     -- what is used lies within the text's buffer
-    pub fed-within : {r : Listed} → list_report r ≡ (list_step l run packet answer flash words text used).said → r ≡ Fed next n m
+    pub fed-within : (list_step l run packet answer flash words text used).said ≡ listed next n m
         → after ≡ (list_step l run packet answer flash words text used).text → n ≤ length text
     unfolding list_step
-    fed-within e f g = fed-at (has_space (length text) used) (sym e ∙ ap list_report f) g
+    fed-within e g = fed-at (has_space (length text) used) e g
 
 -- where a line fits: what the loader's call comes to, the line of what it tells behind the used bytes, and the number and the report by it
 module _
@@ -61,7 +69,7 @@ module _
     (fed : RunFed) (packet' answer' flash' words' : List ℕ)
     (feeds : FeedsRun (run_step l.loader run packet answer flash words) fed packet' answer' flash' words') where
   pub lists_fed :
-      (number longer : ℕ) (text' : List ℕ) (r : Listed) → Appends (line_of l.number (told fed.answer)) text used longer text'
+      (number longer : ℕ) (text' : List ℕ) (r : Result Fed ListError) → Appends (line_of l.number (told fed.answer)) text used longer text'
       → number ≡ number_after (told fed.answer) l.number
       → list_report r ≡ report_of (told fed.answer) (record { loader = fed.loader; number = number }) longer fed.taken
       → Lists (list_step l run packet answer flash words text used) r packet' answer' flash' words' text'

@@ -1,13 +1,14 @@
 -- The listing a run of bytes at a time (request One): "reads line bytes .. into a fresh loader", and "a line for each closed packet", numbered from 1.
-use Rattle.std.specs.Prelude.{◌≡◌, ℕ, ◌+◌, ◌%◌, ◌^◌, cond, List, length}
+use Rattle.std.specs.Prelude.{◌≡◌, ℕ, ◌+◌, ◌%◌, ◌^◌, cond, List, length, Result, Ok, Err}
 use Rattle.lists.specs.Lay.{lay}
 use Rattle.loader_state.specs.Record.{fresh_loader}
 use Rattle.loader_act.specs.Told.{Told, refused, taken, dropped, answered}
 use Rattle.loader_run.specs.RunStep.{RunStep, run_step}
 use Rattle.listing_lines.specs.Lines.{line_of, has_space}
 use Rattle.listing_report.specs.declared.Listing.{Listing}
-use Rattle.listing_report.specs.declared.Listed.{Listed}
-use Rattle.listing_report.specs.declared.Listed.TheVariants.{Full, Refused, Fed}
+use Rattle.listing_report.specs.declared.Fed.{Fed}
+use Rattle.listing_report.specs.declared.ListError.{ListError}
+use Rattle.listing_report.specs.declared.ListError.TheVariants.{NoSpace, Refused}
 
 -- before the first byte: a fresh loader, and the first packet is number 1
 abbrev pub fresh_listing : Listing
@@ -27,10 +28,10 @@ pub data ListReport : Type 0 where
   call_refused : ℕ → ListReport
   listed : (next : Listing) (used count : ℕ) → ListReport
 
-abbrev pub list_report : Listed → ListReport
-list_report Full = not_fed
-list_report (Refused n) = call_refused n
-list_report (Fed next used count) = listed next used count
+abbrev pub list_report : Result Fed ListError → ListReport
+list_report (Err NoSpace) = not_fed
+list_report (Err (Refused n)) = call_refused n
+list_report (Ok fed) = listed fed.listing fed.used fed.taken
 
 -- by what the loader tells
 unfoldable pub report_of : Told → Listing → (used count : ℕ) → ListReport
@@ -77,7 +78,7 @@ list_step l run packet answer flash words text used =
     (full packet answer flash words text)
 
 -- the call's answer and each lent buffer at exit are those of s
-pub record Lists (s : ListStep) (r : Listed) (packet answer flash words text : List ℕ) : Type 0 where
+pub record Lists (s : ListStep) (r : Result Fed ListError) (packet answer flash words text : List ℕ) : Type 0 where
   pub says : list_report r ≡ s.said
   pub packet_buffer : packet ≡ s.packet
   pub answer_buffer : answer ≡ s.answer

@@ -11,7 +11,7 @@ pub use loader_sessions::Session;
 pub use loader_state::{Loader, new};
 pub use slip_unframing::Reason;
 
-// One received byte: a run of one. What is lent and what to do stand at `feed_run`.
+// One received byte: a run of one. What is lent, each by itself, and what to do stand at `feed_run`.
 pub fn feed(
     loader: Loader,
     byte: u8,
@@ -24,12 +24,9 @@ pub fn feed(
         (step loader byte packet.old answer.old flash.old words.old)
         result packet.new answer.new flash.new words.new }
 {
-    let run = [byte];
-    let fed = feed_run(loader, &run, packet, answer, flash, words);
-    let said = fed.answer;
-    let next = fed.loader;
+    let fed = feed_run(loader, &[byte], packet, answer, flash, words);
     Fed {
-        answer: said,
-        loader: next,
+        answer: fed.answer,
+        loader: fed.loader,
     }
 }

@@ -11,7 +11,7 @@ use loader_notes::Note;
 use loader_state::Loader;
 use slip_unframing::Reason;
 
-// What a call answers.
+// What a call answers. A refusal stands as its number, since `listing_lines::line` takes an answer with any number.
 #[derive(Clone, Copy)]
 pub enum Answer {
     // refused with this number: no byte is taken and nothing has changed. Put right what was lent or handed over (1 packet buffer,
@@ -41,20 +41,8 @@ pub struct Fed {
     pub loader: Loader,
 }
 
-// Why a packet that is not read was dropped.
-fn reason_of(closed: Packet) -> Reason
-    requires { (w : Reason) × (closed ≡ Packet.Dropped w) }
-    ensures { closed ≡ Packet.Dropped result }
-{
-    match closed {
-        Packet::Dropped(reason) => reason,
-        // a read packet never comes here
-        Packet::Read(_) => Reason::WrongDirection,
-    }
-}
-
 // A whole packet that was closed. A session that refusal 5 would strike counts as none, and an answer that the buffer does not hold is
-// not sent: `sent` is then 0.
+// not sent: `sent` is then 0. The buffers are parameters, as at `loader_run::feed_run`.
 pub fn act(
     loader: Loader,
     packet: &[u8],
@@ -70,33 +58,28 @@ pub fn act(
     let stored = packet.len();
     let closed = read_packet(packet);
     let Packet::Read(command) = closed else {
-        let reason = reason_of(closed);
-        let said = Answer::Dropped { stored, reason };
+        let Packet::Dropped(reason) = closed else {
+            unreachable!()
+        };
         return Fed {
-            answer: said,
+            answer: Answer::Dropped { stored, reason },
             loader,
         };
     };
-    let session = loader.session;
-    let done = loader_effects::obey(packet, session, loader.attach, flash, words);
-    let error = done.error;
-    let body = done.body;
-    let sent = loader_answers::reply(command, error, done.value, body, answer);
-    let line = loader.line;
-    let next = done.session;
-    let note = done.note;
+    let done = loader_effects::obey(packet, loader.session, loader.attach, flash, words);
+    let sent = loader_answers::reply(command, done.error, done.value, done.body, answer);
     Fed {
         answer: Answer::Answered {
             stored,
             command,
-            error,
+            error: done.error,
             sent,
-            note,
+            note: done.note,
         },
         loader: Loader {
-            line,
-            session: next,
+            session: done.session,
             attach: done.attach,
+            ..loader
         },
     }
 }

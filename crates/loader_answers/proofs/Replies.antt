@@ -4,23 +4,21 @@ use mathlib.Core.Path.{◌≡◌, refl, ap, sym}
 use mathlib.Core.List.{List, ◌++◌}
 use native.Mathlib.Omega.{arith}
 use lib.ListN.{length, length-append}
+use Rattle.std.specs.Prelude.{Result, Ok, Err}
+use Rattle.std.specs.Result.{result_unwrap_or}
 use Rattle.lists.specs.Lay.{lay}
 use Rattle.fields.specs.Header.{header_of}
 use Rattle.slip_framing.specs.Frame.{longest, framed, wrote, Framing, framing, Frames}
-use Rattle.slip_framing.specs.declared.Framed.{Framed}
-use Rattle.slip_framing.specs.declared.Framed.TheVariants.{Written, Refused}
+use Rattle.slip_framing.specs.declared.FrameError.{FrameError}
 use Rattle.slip_framing.proofs.Escapes.{length-framed, escaped-most}
 use Rattle.slip_framing.proofs.Refusals.{framing_written, framing-long}
-use Rattle.loader_answers.specs.declared.Body.{Body}
-use Rattle.loader_answers.specs.Answer.{status_bytes, body_bytes, answer_with, answer_bytes}
+use Rattle.loader_answers.specs.Answer.{Body, status_bytes, body_bytes, answer_with, answer_bytes}
 use Rattle.loader_answers.specs.Reply.{longest_answer, sent_of, Replies}
 
-module _ (bytes buffer after : List ℕ) (f : Framed) (h : Frames (framing bytes buffer) f after) where
-  pub replied : (n : ℕ) → f ≡ Written n → Replies bytes buffer n after
-  replied n e = record { sent = ap sent_of (rw e at h.answer); buffer = h.buffer }
-
-  pub unreplied : (x : ℕ) → f ≡ Refused x → Replies bytes buffer 0 after
-  unreplied x e = record { sent = ap sent_of (rw e at h.answer); buffer = h.buffer }
+-- what the framing routine answers, as a count: none where it refuses
+pub replied : (bytes buffer after : List ℕ) (f : Result ℕ FrameError) → Frames (framing bytes buffer) f after → Replies bytes buffer (result_unwrap_or f 0) after
+replied bytes buffer after (Ok n) h = record { sent = ap sent_of h.answer; buffer = h.buffer }
+replied bytes buffer after (Err e) h = record { sent = ap sent_of h.answer; buffer = h.buffer }
 
 -- the header before the body and the status bytes makes the answer
 pub answer-whole :

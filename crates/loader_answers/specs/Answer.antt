@@ -1,23 +1,26 @@
 -- "Answer: direction 1, same command, size 2, value (4 bytes, zero but for a good READ_REG), status 0 or 1, error. The error is 0 on success." Request Four: "the body is 16 raw bytes before the two status bytes, size field 18"; "A failure has the plain two-byte body."
-use Rattle.std.specs.Prelude.{List, [], ◌∷◌, ◌++◌, true, false, cond, ℕ, length, replicate}
+use Rattle.std.specs.Prelude.{List, [], ◌∷◌, ◌++◌, ℕ, length, Option, Some, None}
 use Rattle.fields.specs.Header.{header_of}
 use Rattle.esp_commands.specs.Status.{status_of}
-use Rattle.loader_answers.specs.declared.Body.{Body}
 
 -- the status bytes that end an answer
 abbrev pub status_bytes : ℕ → List ℕ
 status_bytes error = status_of error ∷ error ∷ []
 
 -- what stands before them: nothing, or a digest
+abbrev pub Body : Type 0
+Body = Option (List ℕ)
+
 abbrev pub plain : Body
-plain = record { digested = false; digest = replicate 16 0 }
+plain = None
 
 abbrev pub with_digest : List ℕ → Body
-with_digest d = record { digested = true; digest = d }
+with_digest d = Some d
 
 -- a digest is written as its bytes are
 abbrev pub body_bytes : Body → List ℕ
-body_bytes b = cond b.digested b.digest []
+body_bytes (Some d) = d
+body_bytes None = []
 
 -- an answer with a body of any length, its status bytes included; the size field counts them
 abbrev pub answer_with : ℕ → ℕ → List ℕ → List ℕ

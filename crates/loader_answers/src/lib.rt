@@ -2,11 +2,12 @@
 #![tactic(auto)]
 
 ghost use Rattle.std.specs.Prelude.{◌≡◌, ◌++◌};
-ghost use Rattle.loader_answers.specs.Answer.{status_bytes, plain, answer_with, answer_bytes};
+ghost use Rattle.loader_answers.specs.Answer.{status_bytes, answer_with, answer_bytes};
 ghost use Rattle.loader_answers.specs.Reply.{Replies};
 
+use digest::DigestBytes;
 use esp_commands::status_of;
-use slip_framing::{Framed, LONGEST};
+use slip_framing::LONGEST;
 
 // The least answer buffer: no answer is longer than 26 bytes, 8 of header, 16 of digest and 2 of status, each escaped to at most two,
 // between two C0.
@@ -20,23 +21,6 @@ const STATUS_LENGTH: usize = 2;
 
 type StatusBytes = [u8; STATUS_LENGTH];
 
-// What stands before the status bytes: a digest, or nothing. The digest is then not looked at; `plain` has zeros.
-#[derive(Clone, Copy)]
-pub struct Body {
-    pub digested: bool,
-    pub digest: [u8; 16],
-}
-
-// Nothing before the status bytes: the plain body.
-pub fn plain() -> Body
-    ensures { result ≡ plain }
-{
-    Body {
-        digested: false,
-        digest: [0; 16],
-    }
-}
-
 // The status bytes that end an answer.
 fn status_bytes(error: u8) -> StatusBytes
     ensures { result ≡ status_bytes error }
@@ -45,6 +29,7 @@ fn status_bytes(error: u8) -> StatusBytes
 }
 
 // Writes an answer with a body of any length and the status bytes behind it; how many bytes from the front of the buffer are to be sent.
+// 0 is no error here: `Replies.sent` has it where nothing is sent. The parameters are the parts of an answer, in their order.
 fn send(command: u8, value: u32, body: &[u8], status: &StatusBytes, answer: &mut [u8]) -> usize
     ensures { Replies (answer_with command value (body.now ++ status.now))
         answer.old result answer.new }
@@ -54,21 +39,23 @@ fn send(command: u8, value: u32, body: &[u8], status: &StatusBytes, answer: &mut
     }
     let size = body.len() + STATUS_LENGTH;
     let head = fields::header(DIRECTION, command, size as u32, value);
-    let Framed::Written(n) = slip_framing::frame_parts(&head, body, status, answer) else {
-        return 0;
-    };
-    n
+    slip_framing::frame_parts(&head, body, status, answer).unwrap_or(0)
 }
 
-// Writes an answer; how many bytes from the front of the buffer are to be sent. Where the buffer is too short for it, none; LONGEST_ANSWER
-// bytes hold every answer.
-pub fn reply(command: u8, error: u8, value: u32, body: Body, answer: &mut [u8]) -> usize
+// Writes an answer, with a digest before its status bytes where there is one; how many bytes from the front of the buffer are to be sent.
+// Where the buffer is too short for it, none; LONGEST_ANSWER bytes hold every answer. The error is a byte: any is sent.
+pub fn reply(
+    command: u8,
+    error: u8,
+    value: u32,
+    body: Option<DigestBytes>,
+    answer: &mut [u8],
+) -> usize
     ensures { Replies (answer_bytes command error value body) answer.old result answer.new }
 {
     let status = status_bytes(error);
-    let digest = body.digest;
-    if body.digested {
-        return send(command, value, &digest, &status, answer);
+    match body {
+        Some(digest) => send(command, value, &digest, &status, answer),
+        None => send(command, value, b"", &status, answer),
     }
-    send(command, value, b"", &status, answer)
 }

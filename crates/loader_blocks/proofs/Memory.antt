@@ -31,13 +31,13 @@ word_of_data p i =
 
 -- one turn of the loop that packs
 pub packed-next :
-    (ws p : List ℕ) (at i v : ℕ) → at + i < length ws → v ≡ word p (24 + 4 * i)
-    → set (lay ws at (words_of (payload p) i)) (at + i) v ≡ lay ws at (words_of (payload p) (i + 1))
+    (ws p : List ℕ) (i v : ℕ) → i < length ws → v ≡ word p (24 + 4 * i)
+    → set (lay ws 0 (words_of (payload p) i)) i v ≡ lay ws 0 (words_of (payload p) (i + 1))
 unfolding words_of
-packed-next ws p at i v h e =
-    let n : length (words_of (payload p) i) ≡ i = length-words (payload p) i in
-    let k : at + length (words_of (payload p) i) < length ws = omega arith in
-    rw (add-one i, word_of_data p (4 * i), ← e) (rw n at (lay-more ws at (words_of (payload p) i) v k))
+packed-next ws p i v h e =
+    let n : 0 + length (words_of (payload p) i) ≡ i = omega (arith, length-words (payload p) i) in
+    let k : 0 + length (words_of (payload p) i) < length ws = omega arith in
+    rw (add-one i, word_of_data p (4 * i), ← e) (rw n at (lay-more ws 0 (words_of (payload p) i) v k))
 
 -- a block's words, in the numbers that the code has: old and new reach, and the place of the first word
 module _

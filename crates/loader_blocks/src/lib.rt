@@ -33,10 +33,8 @@ fn pack_at(words: &mut [u32], at: usize, packet: &[u8], n: usize)
     requires { (at + n ≤ length words.old) × (n ≤ 0x40000000) }
     ensures { words.new ≡ lay words.old at (words_of (payload packet.now) n) }
 {
-    let mut i: usize = 0;
-    while i < n {
-        words[at + i] = fields::word_at(packet, DATA_AT + (4 * i as u32) as usize);
-        i += 1;
+    for (i, word) in words[at..at + n].iter_mut().enumerate() {
+        *word = fields::word_at(packet, DATA_AT + (i << 2));
     }
 }
 
@@ -47,7 +45,7 @@ pub fn write_words(begin: Begin, k: u32, packet: &[u8], words: &mut [u32])
 {
     let old = esp_begin::reach(begin, k);
     let new = esp_begin::reach_after(begin, k);
-    let at = esp_parameters::place_of(begin.offset as u64 + old as u64);
+    let at = esp_parameters::place_of(u64::from(begin.offset) + u64::from(old));
     let size = new - old;
     let n = (size / 4) as usize;
     if DATA_AT + size as usize <= packet.len() {

@@ -21,7 +21,8 @@ use Rattle.loader_effects.proofs.Bodies.{Short, short}
 use Rattle.loader_answers.specs.Answer.{body_bytes, answer_bytes}
 use Rattle.loader_answers.specs.Reply.{longest_answer}
 use Rattle.loader_answers.proofs.Replies.{answer-most}
-use Rattle.loader_state.specs.Refusals.{BufferLengths, buffer_checks, lengths_of, record_good, refusal}
+use Rattle.loader_state.specs.declared.BufferLengths.{BufferLengths}
+use Rattle.loader_state.specs.Refusals.{buffer_checks, lengths_of, record_good, refusal}
 use Rattle.loader.specs.Step as loader
 use Rattle.loader_act.specs.Told.{refused, taken}
 use Rattle.loader_run.specs.Step.{told_of, answer_buffer, after_byte, buffer_lengths}

@@ -2,15 +2,11 @@
 use Prim.Native.Nat.{ℕ}
 use mathlib.Core.Path.{◌≡◌, sym, ◌∙◌}
 use mathlib.Core.List.{List}
-use Rattle.loader_answers.specs.declared.Body.{Body}
 use Rattle.esp_commands.specs.Header.{command}
 use Rattle.loader_errors.specs.Errors.{Kind, kind, unknown}
-use Rattle.loader_sessions.specs.declared.Session.{Session}
 use Rattle.loader_effects.specs.Core.{Core}
 use Rattle.loader_effects.specs.Effects.{effect}
-use Rattle.loader_notes.specs.Notes.{noted}
 use Rattle.loader_effects.specs.Handle.{Handled, carried_out, replied, Does}
-use Rattle.loader_notes.specs.declared.Note.{Note}
 use Rattle.loader_effects.specs.declared.Done.{Done}
 
 -- a good command of the kind d, with its number n
@@ -26,11 +22,3 @@ module _ (c : Core) (p : List ℕ) (m : ℕ) (r : Done) (f w : List ℕ) (is : m
   pub does_none : kind m ≡ unknown → Does (by_kind c m unknown p) m r f w → Does (carried_out c p) (command p) r f w
   unfolding carried_out
   does_none e h = rw (← is, e) h
-
--- a result in its parts
-pub leaves :
-    (h : Handled) (n error : ℕ) (s : Session) (a v : ℕ) (b : Body) (note : Note) (r : Done) (f w : List ℕ)
-    → r ≡ record { error = error; session = s; attach = a; value = v; body = b; note = note } → h.reply ≡ replied n error v b (noted note)
-    → s ≡ h.core.session → a ≡ h.core.attach → f ≡ h.core.flash → w ≡ h.core.words → Does h n r f w
-leaves h n error s a v b note r f w e q es ea ef ew =
-    rw e (record { reply = q; session = es; attach = ea; in_flash = ef; in_words = ew })

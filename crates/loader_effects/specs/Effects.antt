@@ -3,8 +3,7 @@ use Rattle.std.specs.Prelude.{List, cond, ℕ, nat_eq, take, drop}
 use Rattle.fields.specs.Words.{word}
 use Rattle.fields.specs.Places.{first_word, second_word}
 use Rattle.digest.specs.Digest.{md5_of}
-use Rattle.loader_answers.specs.Answer.{plain, with_digest}
-use Rattle.loader_answers.specs.declared.Body.{Body}
+use Rattle.loader_answers.specs.Answer.{Body, plain, with_digest}
 use Rattle.esp_begin.specs.Begin.{begin_of}
 use Rattle.esp_commands.specs.Block.{payload}
 use Rattle.loader_registers.specs.Registers.{register_read, register_written}

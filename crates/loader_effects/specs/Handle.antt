@@ -2,8 +2,7 @@
 use Rattle.std.specs.Prelude.{◌≡◌, List, cond, ℕ, nat_eq}
 use Rattle.slip_packets.specs.Packets.{Packet, dropped, read}
 use Rattle.slip_unframing.specs.declared.Reason.{Reason}
-use Rattle.loader_answers.specs.Answer.{plain}
-use Rattle.loader_answers.specs.declared.Body.{Body}
+use Rattle.loader_answers.specs.Answer.{Body, plain}
 use Rattle.esp_commands.specs.Header.{command}
 use Rattle.loader_errors.specs.Errors.{kind, error_of}
 use Rattle.loader_effects.specs.Core.{Core, lengths, sound_only}

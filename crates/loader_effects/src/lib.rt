@@ -5,35 +5,33 @@ ghost use Rattle.std.specs.Prelude.{◌≡◌, true, ◌+◌, ◌^◌, ◌<◌, 
 ghost use Rattle.fields.specs.Places.{first_word, second_word};
 ghost use Rattle.fields.specs.Words.{word};
 ghost use Rattle.digest.specs.Digest.{md5_of};
-ghost use Rattle.loader_answers.specs.Answer.{plain, with_digest};
+ghost use Rattle.loader_answers.specs.Answer.{plain};
 ghost use Rattle.esp_commands.specs.Header.{command};
 ghost use Rattle.loader_sessions.specs.Session.{accepted, advanced, session_good};
 ghost use Rattle.loader_errors.specs.Errors.{error_of};
 ghost use Rattle.loader_effects.specs.Handle.{carried_out, obeyed, Does};
 
+use digest::DigestBytes;
 use esp_begin::Lengths;
-use esp_commands::{
-    FLASH_BEGIN, FLASH_DATA, FLASH_END, MEM_BEGIN, MEM_DATA, MEM_END, READ_REG, SPI_ATTACH,
-    SPI_FLASH_MD5, SYNC, WRITE_REG,
-};
+use esp_commands::Command;
 use fields::{FIRST_WORD, SECOND_WORD};
-use loader_answers::{Body, plain};
 use loader_notes::Note;
 use loader_sessions::Session;
 
-// What a command comes to, flash and words apart: its error, the session and attach word after it, the value of its answer and what stands
-// there before the status bytes, and what the caller is told.
+// What a command comes to, flash and words apart: its error, the session and attach word after it, the value of its answer and the digest
+// that stands there before the status bytes, and what the caller is told. The error is the answer's byte, 0 on success, as
+// `Does.reply` has it.
 #[derive(Clone, Copy)]
 pub struct Done {
     pub error: u8,
     pub session: Session,
     pub attach: u32,
     pub value: u32,
-    pub body: Body,
+    pub body: Option<DigestBytes>,
     pub note: Note,
 }
 
-// A result with no value and nothing told.
+// A result with no value, no digest and nothing told.
 fn leaving(error: u8, session: Session, attach: u32) -> Done
     ensures { result ≡ record { error = error; session = session; attach = attach; value = 0; body = plain; note = Note.Nothing } }
 {
@@ -42,40 +40,13 @@ fn leaving(error: u8, session: Session, attach: u32) -> Done
         session,
         attach,
         value: 0,
-        body: plain(),
+        body: None,
         note: Note::Nothing,
-    }
-}
-
-// A good command that leaves all as it is and answers with a value and a body.
-fn answering(session: Session, attach: u32, value: u32, body: Body) -> Done
-    ensures { result ≡ record { error = 0; session = session; attach = attach; value = value; body = body; note = Note.Nothing } }
-{
-    Done {
-        error: 0,
-        session,
-        attach,
-        value,
-        body,
-        note: Note::Nothing,
-    }
-}
-
-// A session that END closes, with what it tells.
-fn ending(attach: u32, note: Note) -> Done
-    ensures { result ≡ record { error = 0; session = Session.Closed; attach = attach; value = 0; body = plain; note = note } }
-{
-    Done {
-        error: 0,
-        session: Session::Closed,
-        attach,
-        value: 0,
-        body: plain(),
-        note,
     }
 }
 
 // The session with one block more accepted.
+#[tactic(auto, unfolding(loader_sessions::specs::Session::accepted, loader_sessions::specs::Session::advanced))]
 fn advanced_by(session: Session) -> Session
     requires { accepted session + 1 < 2 ^ 32 }
     ensures { result ≡ advanced session }
@@ -88,20 +59,15 @@ fn advanced_by(session: Session) -> Session
 }
 
 // SPI_FLASH_MD5: the digest of the bytes named.
-fn digest_body(packet: &[u8], flash: &[u8]) -> Body
-    ensures { result ≡ with_digest (md5_of (take (word packet.now second_word)
-        (drop (word packet.now first_word) flash.now))) }
+fn digest_of(packet: &[u8], flash: &[u8]) -> DigestBytes
+    ensures { result ≡ md5_of (take (word packet.now second_word) (drop (word packet.now first_word) flash.now)) }
 {
     let address = fields::word_at(packet, FIRST_WORD) as usize;
     let size = fields::word_at(packet, SECOND_WORD) as usize;
-    let digest = digest::md5(flash, address, size);
-    Body {
-        digested: true,
-        digest,
-    }
+    digest::md5(flash, address, size)
 }
 
-// A command whose error is 0, carried out.
+// A command whose error is 0, carried out. Of the core, flash and words are lent, so they stand beside session and attach word.
 fn carry_out(
     packet: &[u8],
     session: Session,
@@ -116,50 +82,76 @@ fn carry_out(
         packet.now)
         (command packet.now) result flash.new words.new }
 {
-    let number = esp_commands::command_of(packet);
-    match number {
-        FLASH_BEGIN => leaving(0, Session::Flash(esp_begin::begin_of(packet), 0), attach),
-        FLASH_DATA => {
+    let before = leaving(0, session, attach);
+    let Ok(command) = Command::try_from(esp_commands::command_of(packet)) else {
+        // No other command has the error 0.
+        return before;
+    };
+    match command {
+        Command::FlashBegin => Done {
+            session: Session::Flash(esp_begin::begin_of(packet), 0),
+            ..before
+        },
+        Command::FlashData => {
             loader_blocks::write_flash(
                 loader_sessions::announced_by(session),
                 loader_sessions::accepted_by(session),
                 packet,
                 flash,
             );
-            leaving(0, advanced_by(session), attach)
+            Done {
+                session: advanced_by(session),
+                ..before
+            }
         }
-        FLASH_END => ending(attach, loader_notes::flash_note(packet)),
-        MEM_BEGIN => leaving(0, Session::Memory(esp_begin::begin_of(packet), 0), attach),
-        MEM_END => ending(attach, loader_notes::memory_note(packet)),
-        MEM_DATA => {
+        Command::FlashEnd => Done {
+            session: Session::Closed,
+            note: loader_notes::flash_note(packet),
+            ..before
+        },
+        Command::MemBegin => Done {
+            session: Session::Memory(esp_begin::begin_of(packet), 0),
+            ..before
+        },
+        Command::MemEnd => Done {
+            session: Session::Closed,
+            note: loader_notes::memory_note(packet),
+            ..before
+        },
+        Command::MemData => {
             loader_blocks::write_words(
                 loader_sessions::announced_by(session),
                 loader_sessions::accepted_by(session),
                 packet,
                 words,
             );
-            leaving(0, advanced_by(session), attach)
+            Done {
+                session: advanced_by(session),
+                ..before
+            }
         }
-        SYNC => leaving(0, session, attach),
-        WRITE_REG => {
+        Command::Sync => before,
+        Command::WriteReg => {
             loader_registers::write(packet, words);
-            leaving(0, session, attach)
+            before
         }
-        READ_REG => answering(
-            session,
-            attach,
-            loader_registers::read(packet, words),
-            plain(),
-        ),
-        SPI_ATTACH => leaving(0, session, fields::word_at(packet, FIRST_WORD)),
-        SPI_FLASH_MD5 => answering(session, attach, 0, digest_body(packet, flash)),
-        // No other command has the error 0.
-        _ => leaving(0, session, attach),
+        Command::ReadReg => Done {
+            value: loader_registers::read(packet, words),
+            ..before
+        },
+        Command::SpiAttach => Done {
+            attach: fields::word_at(packet, FIRST_WORD),
+            ..before
+        },
+        Command::SpiFlashMd5 => Done {
+            body: Some(digest_of(packet, flash)),
+            ..before
+        },
     }
 }
 
 // A read packet's command, carried out where its error is 0; where it fails, session and attach word come back as they were. A
-// session that refusal 5 would strike counts as none.
+// session that refusal 5 would strike counts as none. The parameters are those of `carry_out`.
 pub fn obey(
     packet: &[u8],
     session: Session,
@@ -177,9 +169,8 @@ pub fn obey(
         words: words.len(),
     };
     let open = loader_sessions::if_sound(lengths, session);
-    let error = loader_errors::error_of(lengths, open, packet);
-    if error != 0 {
-        return leaving(error, session, attach);
+    if let Err(error) = loader_errors::error_of(lengths, open, packet) {
+        return leaving(u8::from(error), session, attach);
     }
     carry_out(packet, open, attach, flash, words)
 }

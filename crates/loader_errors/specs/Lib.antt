@@ -1,3 +1,4 @@
 pub mod Numbers
 pub mod Errors
 pub mod Attach
+pub mod Codes

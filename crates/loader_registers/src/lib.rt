@@ -10,7 +10,7 @@ use fields::{FIRST_WORD, SECOND_WORD, THIRD_WORD};
 pub fn write(packet: &[u8], words: &mut [u32])
     ensures { words.new ≡ register_written packet.now words.old }
 {
-    let at = esp_parameters::place_of(fields::word_at(packet, FIRST_WORD) as u64);
+    let at = esp_parameters::place_of(u64::from(fields::word_at(packet, FIRST_WORD)));
     if at < words.len() {
         let old = words[at];
         words[at] = fields::merge(
@@ -25,9 +25,6 @@ pub fn write(packet: &[u8], words: &mut [u32])
 pub fn read(packet: &[u8], words: &[u32]) -> u32
     ensures { result ≡ register_read packet.now words.now }
 {
-    let at = esp_parameters::place_of(fields::word_at(packet, FIRST_WORD) as u64);
-    if at < words.len() {
-        return words[at];
-    }
-    0
+    let at = esp_parameters::place_of(u64::from(fields::word_at(packet, FIRST_WORD)));
+    words.get(at).copied().unwrap_or(0)
 }

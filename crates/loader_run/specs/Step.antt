@@ -6,7 +6,7 @@ use Rattle.slip_framing.specs.Frame.{framed}
 use Rattle.slip_packets.specs.Packets.{header}
 use Rattle.slip_unframing.specs.Line.{Closed as ClosedPacket}
 use Rattle.slip_unframing.specs.declared.Line.{Line}
-use Rattle.loader_state.specs.Refusals.{BufferLengths}
+use Rattle.loader_state.specs.declared.BufferLengths.{BufferLengths}
 use Rattle.esp_commands.specs.Status.{status_of}
 use Rattle.loader_answers.specs.Answer.{answer_bytes}
 use Rattle.loader_effects.specs.Handle.{Reply, nothing, replied, Handled, handle}

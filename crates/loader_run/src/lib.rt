@@ -4,7 +4,7 @@
 ghost use Rattle.loader_run.specs.RunStep.{run_step, FeedsRun};
 
 use loader_act::{Answer, act};
-use loader_state::{Loader, refusal_of};
+use loader_state::{BufferLengths, Loader, judge};
 use slip_unframing::Closing;
 
 // The answer to a run, how many of its bytes were taken, and the record for the next call, whatever the answer. Where a packet was
@@ -22,6 +22,7 @@ pub struct RunFed {
 // - an answer buffer of at least LONGEST_ANSWER bytes, which it may use as it likes between calls;
 // - flash, of a length that is a multiple of 4,096 up to 4,194,304, and 1 to 16,384 words of memory, the same for each call;
 // keeps the record that comes back, does what stands at the answer's case, and hands the rest of the run over with the next call.
+// The four buffers are four parameters: the caller uses the answer buffer between calls, so a struct of them would be written anew for each.
 pub fn feed_run(
     loader: Loader,
     run: &[u8],
@@ -34,26 +35,26 @@ pub fn feed_run(
         (run_step loader run.now packet.old answer.old flash.old words.old)
         result packet.new answer.new flash.new words.new }
 {
-    let number = refusal_of(loader, packet.len(), answer.len(), flash.len(), words.len());
-    if number != 0 {
+    let buffers = BufferLengths {
+        packet: packet.len(),
+        answer: answer.len(),
+        flash: flash.len(),
+        words: words.len(),
+    };
+    if let Err(refusal) = judge(loader, buffers) {
         return RunFed {
             taken: 0,
-            answer: Answer::Refused(number),
+            answer: Answer::Refused(u8::from(refusal)),
             loader,
         };
     }
-    let line = loader.line;
-    let session = loader.session;
-    let ran = slip_runs::run(line, run, packet);
+    let ran = slip_runs::run(loader.line, run, packet);
     let taken = ran.taken;
-    let after = ran.line;
-    let closing = ran.closing;
     let next = Loader {
-        line: after,
-        session,
-        attach: loader.attach,
+        line: ran.line,
+        ..loader
     };
-    match closing {
+    match ran.closing {
         Closing::Open => RunFed {
             taken,
             answer: Answer::Taken,
@@ -61,12 +62,10 @@ pub fn feed_run(
         },
         Closing::Whole(stored) => {
             let acted = act(next, &packet[..stored], answer, flash, words);
-            let said = acted.answer;
-            let left = acted.loader;
             RunFed {
                 taken,
-                answer: said,
-                loader: left,
+                answer: acted.answer,
+                loader: acted.loader,
             }
         }
         Closing::Broken(stored, reason) => RunFed {

@@ -6,7 +6,8 @@ ghost use Rattle.loader_sessions.specs.Session.{flash_open, memory_open, announc
 
 use esp_begin::{Begin, Lengths};
 
-// The open session: none, flash or memory, with what its BEGIN announced and how many blocks are accepted.
+// The open session: none, flash or memory, with what its BEGIN announced and how many blocks are accepted. A case has these two as they
+// are, and no struct of both: `loader_sessions::Session.advanced` and `loader_effects::effect` name them so (`Flash begin 0`).
 #[derive(Clone, Copy)]
 pub enum Session {
     Closed,
@@ -15,28 +16,23 @@ pub enum Session {
 }
 
 // Whether a flash session is open.
+#[tactic(auto, unfolding(crate::specs::Session::flash_open))]
 pub fn flash_open(session: Session) -> bool
     ensures { result ≡ flash_open session }
 {
-    match session {
-        Session::Closed => false,
-        Session::Flash(_, _) => true,
-        Session::Memory(_, _) => false,
-    }
+    matches!(session, Session::Flash(_, _))
 }
 
 // Whether a memory session is open.
+#[tactic(auto, unfolding(crate::specs::Session::memory_open))]
 pub fn memory_open(session: Session) -> bool
     ensures { result ≡ memory_open session }
 {
-    match session {
-        Session::Closed => false,
-        Session::Flash(_, _) => false,
-        Session::Memory(_, _) => true,
-    }
+    matches!(session, Session::Memory(_, _))
 }
 
 // What the open session's BEGIN announced; zeros where none is open.
+#[tactic(auto, unfolding(crate::specs::Session::announced))]
 pub fn announced_by(session: Session) -> Begin
     ensures { result ≡ announced session }
 {
@@ -47,23 +43,23 @@ pub fn announced_by(session: Session) -> Begin
             block: 0,
             offset: 0,
         },
-        Session::Flash(begin, _) => begin,
-        Session::Memory(begin, _) => begin,
+        Session::Flash(begin, _) | Session::Memory(begin, _) => begin,
     }
 }
 
 // How many blocks of the open session are accepted.
+#[tactic(auto, unfolding(crate::specs::Session::accepted))]
 pub fn accepted_by(session: Session) -> u32
     ensures { result ≡ accepted session }
 {
     match session {
         Session::Closed => 0,
-        Session::Flash(_, k) => k,
-        Session::Memory(_, k) => k,
+        Session::Flash(_, k) | Session::Memory(_, k) => k,
     }
 }
 
 // Whether refusal 5 finds nothing wrong with a session, for the lengths lent.
+#[tactic(auto, unfolding(crate::specs::Session::session_good))]
 pub fn session_good(lengths: Lengths, session: Session) -> bool
     ensures { result ≡ session_good lengths session }
 {
@@ -75,6 +71,7 @@ pub fn session_good(lengths: Lengths, session: Session) -> bool
 }
 
 // The session as a command finds it: one that refusal 5 would strike counts as none.
+#[tactic(auto, unfolding(crate::specs::Session::if_sound))]
 pub fn if_sound(lengths: Lengths, session: Session) -> Session
     ensures { result ≡ if_sound lengths session }
 {

@@ -3,6 +3,7 @@ use Prim.Native.Nat.{◌≤◌}
 use mathlib.Core.Path.{◌≡◌, refl}
 use mathlib.Core.List.{[], ◌∷◌, ◌++◌}
 use mathlib.Core.Bool.{true}
+use native.Mathlib.Omega.{arith}
 use borrow.Author.Tests.{leb-true, le-leb}
 use lib.Dec.{leb}
 use Rattle.lists.specs.Checks.{◌or_else◌}
@@ -11,8 +12,19 @@ use Rattle.esp_attach.specs.Pins.{attach_good}
 use Rattle.slip_framing.specs.Frame.{longest}
 use Rattle.loader_sessions.specs.Session.{session_good}
 use Rattle.loader_answers.specs.Reply.{longest_answer}
-use Rattle.loader_state.specs.Refusals.{BufferLengths, lengths_of, buffer_checks, record_good, refusal}
+use Rattle.loader_state.specs.declared.BufferLengths.{BufferLengths}
+use Rattle.loader_state.specs.Refusals.{lengths_of, buffer_checks, record_good, refusal_number, refusal}
 use Rattle.loader_state.specs.declared.Loader.{Loader}
+use Rattle.loader_state.specs.declared.Refusal.{Refusal}
+use Rattle.loader_state.specs.declared.Refusal.TheVariants.{PacketBuffer, AnswerBuffer, Flash, Words, Record}
+
+-- no refusal has the number of a call that is let pass
+pub refusal-nonzero : (r : Refusal) → refusal_number r ≡ 0 → ⊥
+refusal-nonzero PacketBuffer h = omega arith
+refusal-nonzero AnswerBuffer h = omega arith
+refusal-nonzero Flash h = omega arith
+refusal-nonzero Words h = omega arith
+refusal-nonzero Record h = omega arith
 
 pub record LetPass (r : Loader) (buffers : BufferLengths) : Type 0 where
   pub lent : Passed (buffer_checks buffers)

@@ -7,14 +7,18 @@ use Rattle.esp_begin.specs.Flash.{flash_length}
 use Rattle.esp_begin.specs.declared.Lengths.{Lengths}
 use Rattle.loader_sessions.specs.Session.{session_good}
 use Rattle.loader_answers.specs.Reply.{longest_answer}
+use Rattle.loader_state.specs.declared.BufferLengths.{BufferLengths}
 use Rattle.loader_state.specs.declared.Loader.{Loader}
+use Rattle.loader_state.specs.declared.Refusal.{Refusal}
+use Rattle.loader_state.specs.declared.Refusal.TheVariants.{PacketBuffer, AnswerBuffer, Flash, Words, Record}
 
--- the lengths of what a call lends: packet buffer, answer buffer, flash, words
-pub record BufferLengths : Type 0 where
-  pub packet : ℕ
-  pub answer : ℕ
-  pub flash : ℕ
-  pub words : ℕ
+-- refusals by their numbers
+abbrev pub refusal_number : Refusal → ℕ
+refusal_number PacketBuffer = 1
+refusal_number AnswerBuffer = 2
+refusal_number Flash = 3
+refusal_number Words = 4
+refusal_number Record = 5
 
 -- those that the BEGIN rules speak of
 abbrev pub lengths_of : BufferLengths → Lengths

@@ -1,43 +1,93 @@
 // The operations, by their names in the table.
+ghost use Rattle.std.specs.Prelude.{◌≡◌};
+ghost use Rattle.tables.specs.Rows.{Names_by};
+ghost use Rattle.loader_vectors.specs.Names.{name_of};
 
-// Each name has the number of its place here.
-pub const NAMES: [u8; 119] = *b"\
-    checksum\tcommand\trecord\tsize\tvalue\taddress\tmerge\tpack\t\
-    frame\tunframe\tanswer\tcloses\terrors\tline\t\
-    flash\terased\tpacket\tload\t";
+use tables::Named;
 
-pub const CHECKSUM: u8 = 0;
+// What is read off a loader that was fed.
+#[derive(Clone, Copy)]
+pub enum Reading {
+    Answer,
+    Closes,
+    Errors,
+    Line,
+}
 
-pub const COMMAND: u8 = 1;
+#[derive(Clone, Copy)]
+pub enum Operation {
+    Checksum,
+    Command,
+    Record,
+    Size,
+    Value,
+    Address,
+    Merge,
+    Pack,
+    Frame,
+    Unframe,
+    Feed(Reading),
+    Flash,
+    Erased,
+    Packet,
+    Load,
+}
 
-pub const RECORD: u8 = 2;
+const ALL: [Operation; 18] = [
+    Operation::Checksum,
+    Operation::Command,
+    Operation::Record,
+    Operation::Size,
+    Operation::Value,
+    Operation::Address,
+    Operation::Merge,
+    Operation::Pack,
+    Operation::Frame,
+    Operation::Unframe,
+    Operation::Feed(Reading::Answer),
+    Operation::Feed(Reading::Closes),
+    Operation::Feed(Reading::Errors),
+    Operation::Feed(Reading::Line),
+    Operation::Flash,
+    Operation::Erased,
+    Operation::Packet,
+    Operation::Load,
+];
 
-pub const SIZE: u8 = 3;
+impl Operation {
+    fn name(self) -> &'static [u8]
+        ensures { result.now ≡ name_of self }
+    {
+        match self {
+            Operation::Checksum => b"checksum",
+            Operation::Command => b"command",
+            Operation::Record => b"record",
+            Operation::Size => b"size",
+            Operation::Value => b"value",
+            Operation::Address => b"address",
+            Operation::Merge => b"merge",
+            Operation::Pack => b"pack",
+            Operation::Frame => b"frame",
+            Operation::Unframe => b"unframe",
+            Operation::Feed(Reading::Answer) => b"answer",
+            Operation::Feed(Reading::Closes) => b"closes",
+            Operation::Feed(Reading::Errors) => b"errors",
+            Operation::Feed(Reading::Line) => b"line",
+            Operation::Flash => b"flash",
+            Operation::Erased => b"erased",
+            Operation::Packet => b"packet",
+            Operation::Load => b"load",
+        }
+    }
+}
 
-pub const VALUE: u8 = 4;
+impl Named for Operation {
+    ghost names = { Names_by name_of };
 
-pub const ADDRESS: u8 = 5;
-
-pub const MERGE: u8 = 6;
-
-pub const PACK: u8 = 7;
-
-pub const FRAME: u8 = 8;
-
-pub const UNFRAME: u8 = 9;
-
-pub const ANSWER: u8 = 10;
-
-pub const CLOSES: u8 = 11;
-
-pub const ERRORS: u8 = 12;
-
-pub const LINE: u8 = 13;
-
-pub const FLASH: u8 = 14;
-
-pub const ERASED: u8 = 15;
-
-pub const PACKET: u8 = 16;
-
-pub const LOAD: u8 = 17;
+    // Not a `match`, of whose byte strings a proof learns the lengths alone.
+    fn named(name: &[u8]) -> Option<Operation> {
+        ALL.iter()
+            .find(|operation| lists::same(operation.name(), name))
+            .copied()
+    }
+}

@@ -1,30 +1,17 @@
 -- What the packer tells, and what it says of the pins that it tells a word.
-use Prim.Native.Nat.{ℕ, ◌≤◌, ◌<◌}
+use Prim.Native.Nat.{ℕ, ◌<◌}
 use mathlib.Core.Path.{◌≡◌, refl}
 use mathlib.Core.Bool.{Bool, true, false, cond, ◌&&◌}
 use native.Mathlib.Omega.{arith}
-use borrow.Author.Tests.{ltb-true, lt-ltb, le-ltb}
+use borrow.Author.Tests.{ltb-true, lt-ltb}
 use lib.Dec.{ltb}
 use Rattle.esp_attach.specs.declared.Pins.{Pins}
 use Rattle.esp_attach.specs.Pins.{two_equal}
 use Rattle.pins.specs.Packer.{refused, word, pins_good, pins_word, packing_of}
 
-module _ (p : Pins) (w : ℕ) (good : pins_good p ≡ true) (e : w ≡ pins_word p) where
-  pub packs : 1 < w → two_equal p ≡ false → word w ≡ packing_of p
-  unfolding packing_of
-  packs h a = rw (good, ← e, lt-ltb 1 w h, a)
-
-  pub packs_equal : 1 < w → two_equal p ≡ true → refused 17 ≡ packing_of p
-  unfolding packing_of
-  packs_equal h a = rw (good, ← e, lt-ltb 1 w h, a)
-
-  pub packs_none : w ≤ 1 → refused 9 ≡ packing_of p
-  unfolding packing_of
-  packs_none h = rw (good, ← e, le-ltb 1 w h)
-
-pub packs_bad : (p : Pins) → pins_good p ≡ false → refused 9 ≡ packing_of p
+pub packs : (p : Pins) (w : ℕ) → pins_good p ≡ true → w ≡ pins_word p → 1 < w → two_equal p ≡ false → word w ≡ packing_of p
 unfolding packing_of
-packs_bad p bad = rw bad
+packs p w good e h a = rw (good, ← e, lt-ltb 1 w h, a)
 
 -- pins that are told the word w
 pub record Told (p : Pins) (w : ℕ) : Type 0 where

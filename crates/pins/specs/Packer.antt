@@ -1,8 +1,8 @@
 -- The packer of pins: the word that says them, or a refusal's number.
-use Rattle.std.specs.Prelude.{Bool, cond, ◌&&◌, ◌||◌, ℕ, ◌+◌, ◌-◌, ◌*◌, nat_lt, nat_eq}
+use Rattle.std.specs.Prelude.{Bool, cond, ◌&&◌, ◌||◌, ℕ, ◌+◌, ◌-◌, ◌*◌, nat_lt, nat_eq, Result, Ok, Err}
 use Rattle.esp_attach.specs.declared.Pins.{Pins}
-use Rattle.pins.specs.declared.Packed.{Packed}
-use Rattle.pins.specs.declared.Packed.TheVariants.{Word, Refused}
+use Rattle.pins.specs.declared.PinError.{PinError}
+use Rattle.pins.specs.declared.PinError.TheVariants.{NoWord, EqualPins}
 use Rattle.esp_attach.specs.Pins.{field, two_equal}
 
 -- "The packer of pins refuses pins 30, 31 and above 33": a pin that a field can say
@@ -31,9 +31,13 @@ pub data Packing : Type 0 where
   refused : ℕ → Packing
   word : ℕ → Packing
 
-abbrev pub packing : Packed → Packing
-packing (Refused n) = refused n
-packing (Word w) = word w
+abbrev pub pin_number : PinError → ℕ
+pin_number NoWord = 9
+pin_number EqualPins = 17
+
+abbrev pub packing : Result ℕ PinError → Packing
+packing (Ok w) = word w
+packing (Err e) = refused (pin_number e)
 
 -- "and pins whose word would be 0 or 1 (number 9 and no word)"; "the packer gives 17, after 9" (request Seven), for two equal pins
 unfoldable pub packing_of : Pins → Packing

@@ -9,11 +9,11 @@ use lib.Dec.{eqb}
 use lib.ListN.{length}
 use Rattle.lists.specs.Lay.{lay}
 use Rattle.lists.proofs.Tests.{first_passed}
-use Rattle.slip_framing.specs.Frame.{framed, wrote, refused, frame_report, Framing}
-use Rattle.slip_framing.specs.declared.Framed.{Framed}
-use Rattle.slip_framing.specs.declared.Framed.TheVariants.{Written}
+use Rattle.slip_framing.specs.Frame.{framed, wrote, refused, Framing}
+use Rattle.std.specs.Prelude.{Result, Ok}
 use Rattle.sender.specs.Packets.{packet_of}
-use Rattle.sender.specs.Sending.{load_checks, refusal, sending}
+use Rattle.sender.specs.Sending.{load_checks, refusal, packet_report, sending}
+use Rattle.sender.specs.declared.PacketError.{PacketError}
 
 -- a call that tells a length is not refused, and tells that length
 told :
@@ -36,7 +36,7 @@ module _ (image : List ℕ) (offset block flash number : ℕ) (buffer : List ℕ
   unfolding refusal load_checks
   fits e = leb-true (length (framed p)) (length buffer) (first_passed _ refl e).1.1.1.0
 
-  pub written_fits : (r : Framed) (n : ℕ) → frame_report r ≡ (sending image offset block flash number buffer).report → r ≡ Written n → n ≤ length buffer
+  pub written_fits : (r : Result ℕ PacketError) (n : ℕ) → packet_report r ≡ (sending image offset block flash number buffer).report → r ≡ Ok n → n ≤ length buffer
   unfolding sending
   written_fits r n e q =
       let t = told (refusal image offset block flash number buffer) (length (framed p)) n (lay buffer 0 (framed p)) buffer (rw q at e) in

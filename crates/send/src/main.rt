@@ -3,30 +3,62 @@
 #![tactic(auto)]
 
 use esp_begin::LONGEST_FLASH;
-use sender::{Count, LONGEST_FRAME};
-use sender_numbers::Number;
-use slip_framing::Framed;
+use sender::{LONGEST_FRAME, LoadError, PacketError, Place};
 use std::env::FillError;
+use std::fmt::InlineText;
 use std::fs::File;
-use std::io;
-use std::io::{Read, Write};
+use std::io::Read;
 use std::rt::{Env, Files};
+use std::{fmt, io};
 
 // The space for an argument: that of the longest path.
 const ARGUMENT_SPACE: usize = 4096;
 
-// The space for the text of an error.
+// The space for the text of an error, which is told even where no memory is left.
 const REASON_SPACE: usize = 256;
 
 // One byte more than the longest flash, so that an image that fits leaves space: a file that fills the buffer is refused.
 const IMAGE_SPACE: usize = LONGEST_FLASH + 1;
 
-// Where in flash the image goes, in blocks of what size, and how long the flash is.
+// Why a load is not sent, or not whole.
+#[derive(Drop)]
+enum Failure {
+    Refused(PacketError),
+    Image(io::Error),
+    Output(io::Error),
+}
+
+impl From<LoadError> for Failure {
+    fn from(error: LoadError) -> Failure {
+        Failure::Refused(PacketError::Load(error))
+    }
+}
+
+impl From<PacketError> for Failure {
+    fn from(error: PacketError) -> Failure {
+        Failure::Refused(error)
+    }
+}
+
+// A refusal, as it is said.
 #[derive(Clone, Copy)]
-struct Place {
-    offset: usize,
-    block: usize,
-    flash: usize,
+struct Refusal(PacketError);
+
+// A load is refused with 3 or 15. A packet of an accepted one is not, as its number is in range and the buffer long enough.
+impl fmt::Display for Refusal {
+    fn fmt<W: fmt::Write>(&self, f: &mut fmt::Formatter<W>) -> fmt::Result {
+        let number = u8::from(self.0);
+        let reason = match self.0 {
+            PacketError::Load(LoadError::FlashLength) => {
+                "the flash length must be a multiple of 4096, from 4096 to 4194304"
+            }
+            PacketError::Load(LoadError::DoesNotFit) => {
+                "the load does not fit: the block size must be 1 to 4096, the offset a multiple of 4096, and the image end within the flash"
+            }
+            _ => "the packet cannot be written",
+        };
+        write!(f, "refused, {number}: {reason}")
+    }
 }
 
 fn say_usage(rt: &impl Eprint) {
@@ -36,168 +68,72 @@ fn say_usage(rt: &impl Eprint) {
     );
 }
 
-// A load is refused with 3 or 15. A packet of an accepted one is not, as its number is in range and the buffer long enough.
-fn say_refused(rt: &impl Eprint, number: u8) {
-    let _ = eprint!(rt; "send: refused, {number}");
-    if number == 3 {
-        let _ = rt.eprintln(": the flash length must be a multiple of 4096, from 4096 to 4194304");
-        return;
-    }
-    if number == 15 {
-        let _ = rt.eprintln(
-            ": the load does not fit: the block size must be 1 to 4096, the offset a multiple of 4096, and the image end within the flash",
-        );
-        return;
-    }
-    let _ = rt.eprintln(": the packet cannot be written");
-}
-
-// Why a call failed, as the system words it, without the error's number.
-fn reason<'a>(error: &io::Error, space: &'a mut [u8; REASON_SPACE]) -> &'a str {
-    let mut rest = &mut space[..];
-    let _ = write!(rest, "{error}");
-    let n = REASON_SPACE.saturating_sub(rest.len());
-    let Ok(text) = str::from_utf8(&space[..n]) else {
-        return "";
-    };
+// What the system says of an error, without the error's number.
+fn words(text: &str) -> &str {
     match text.split_once(" (os error ") {
         Some((words, _)) => words,
         None => text,
     }
 }
 
-// Writes a line to standard error: what failed, and why.
+// Writes a line to standard error: what failed, and why. `listing` has this function and `is_given` too: of one in a library no contract
+// could say anything.
 fn fail(rt: &impl Eprint, what: &str, error: &io::Error) {
-    let mut space = [0u8; REASON_SPACE];
-    let why = reason(error, &mut space);
-    let _ = eprintln!(rt; "{what}: {why}");
+    let text = InlineText::<REASON_SPACE>::of(error);
+    let _ = eprintln!(rt; "{what}: {}", words(text.as_str()));
 }
 
-// Writes one packet of an accepted load; whether to go on. Where the output fails it says so, and there is no sense in going on.
-fn send_packet(
-    rt: &(impl Print + Eprint),
-    image: &[u8],
-    place: Place,
-    number: usize,
-    buffer: &mut [u8],
-) -> bool {
-    match sender::packet(
-        image,
-        place.offset,
-        place.block,
-        place.flash,
-        number,
-        buffer,
-    ) {
-        Framed::Refused(refusal) => {
-            say_refused(rt, refusal);
-            false
-        }
-        Framed::Written(n) => {
-            let Err(error) = rt.write_all(&buffer[..n]) else {
-                return true;
-            };
-            fail(rt, "standard output", &error);
-            false
-        }
+// Writes the packets of a load to standard output, in order. Of the buffer so many bytes were read.
+fn send_load(rt: &impl Print, buffer: &[u8], read: usize, place: Place) -> Result<(), Failure> {
+    let count = sender::file_packet_count(buffer, read, place)?;
+    let image = &buffer[..read];
+    let mut frame = [0u8; LONGEST_FRAME];
+    for number in 0..count {
+        let n = sender::packet(image, place, number, &mut frame)?;
+        rt.write_all(&frame[..n]).map_err(Failure::Output)?;
     }
+    Ok(())
 }
 
-// Writes the packets of an accepted load, in order.
-fn send_packets(
-    rt: &(impl Print + Eprint),
-    image: &[u8],
-    place: Place,
-    count: usize,
-    buffer: &mut [u8],
-) {
-    let mut goes_on = true;
-    let mut number: usize = 0;
-    while goes_on && number < count {
-        goes_on = send_packet(rt, image, place, number, buffer);
-        number += 1;
-    }
+// An image read into a buffer, or as much of it as there is space for, and how many bytes were read: `sender::file_packet_count` judges a file
+// by the buffer's length beside that.
+fn read_image<R: Files + Alloc>(rt: &R, name: &str) -> io::Result<(Vec<u8, R::A>, usize)> {
+    let mut buffer = Vec::new(rt.alloc());
+    let read = File::open(rt, name)?
+        .take(IMAGE_SPACE as u64)
+        .read_to_end(&mut buffer)?;
+    buffer.resize(IMAGE_SPACE, 0)?;
+    Ok((buffer, read))
 }
 
-// Sends an image of which so many bytes were read.
-fn send_load(rt: &(impl Print + Eprint), image: &[u8], read: usize, place: Place) {
-    match sender::file_packet_count(image, read, place.offset, place.block, place.flash) {
-        Count::Refused(refusal) => say_refused(rt, refusal),
-        Count::Packets(count) => {
-            let mut buffer = [0u8; LONGEST_FRAME];
-            send_packets(rt, &image[..read], place, count, &mut buffer);
-        }
-    }
+fn send_file(rt: &(impl Files + Print + Alloc), name: &str, place: Place) -> Result<(), Failure> {
+    let (buffer, read) = read_image(rt, name).map_err(Failure::Image)?;
+    send_load(rt, &buffer, read, place)
 }
 
-// Reads an open image to its end, or as much of it as there is space for, and sends it. A read may bring less than it was asked for.
-fn send_open(
-    rt: &(impl Print + Eprint),
-    file: &mut impl Read,
-    name: &str,
-    image: &mut [u8],
-    place: Place,
-) {
-    let mut filled: usize = 0;
-    while filled < image.len() {
-        let n = match file.read(&mut image[filled..]) {
-            Ok(n) => n,
-            Err(error) => {
-                fail(rt, name, &error);
-                return;
-            }
-        };
-        if n == 0 {
-            break;
-        }
-        filled += n;
-    }
-    send_load(rt, image, filled, place);
-}
-
-// Lends the array on as a slice. In a function of its own, which knows the array's length by its type, no proof counts its bytes.
-fn send_space(
-    rt: &(impl Print + Eprint),
-    file: &mut impl Read,
-    name: &str,
-    space: &mut [u8; IMAGE_SPACE],
-    place: Place,
-) {
-    send_open(rt, file, name, space, place);
-}
-
-fn send_file(rt: &(impl Files + Print + Eprint), name: &str, place: Place) {
-    let mut file = match File::open(rt, name) {
-        Ok(file) => file,
-        Err(error) => {
-            fail(rt, name, &error);
-            return;
-        }
-    };
-    let mut space = [0u8; IMAGE_SPACE];
-    send_space(rt, &mut file, name, &mut space, place);
-}
-
-// The number that an argument says. One that is missing, or longer than the space for it, says none.
-fn number_at(rt: &impl Env, i: usize) -> Number {
+// The number that an argument says. One that is missing, or longer than the space for it, says none. (Not by `env::args`, which fails for
+// all arguments where one is not UTF-8.)
+fn number_at(rt: &impl Env, i: usize) -> Option<usize> {
     let mut text = [0u8; ARGUMENT_SPACE];
-    match rt.arg(i, &mut text) {
-        Ok(n) => sender_numbers::read(&text[..n]),
-        Err(_) => Number::Wrong,
-    }
+    let n = rt.arg(i, &mut text).ok()?;
+    sender_numbers::read(&text[..n])
+}
+
+// Where the arguments say that the image goes.
+fn place_given(rt: &impl Env) -> Option<Place> {
+    let offset = number_at(rt, 2)?;
+    let block = number_at(rt, 3)?;
+    let flash = number_at(rt, 4)?;
+    Some(Place {
+        offset,
+        block,
+        flash,
+    })
 }
 
 // Takes the arguments, of which there are four. std opens a file by a name that is UTF-8, and by no other.
-fn send_named(rt: &(impl Env + Files + Print + Eprint)) {
-    let Number::Good(offset) = number_at(rt, 2) else {
-        say_usage(rt);
-        return;
-    };
-    let Number::Good(block) = number_at(rt, 3) else {
-        say_usage(rt);
-        return;
-    };
-    let Number::Good(flash) = number_at(rt, 4) else {
+fn send_named(rt: &(impl Env + Files + Print + Eprint + Alloc)) {
+    let Some(place) = place_given(rt) else {
         say_usage(rt);
         return;
     };
@@ -210,21 +146,20 @@ fn send_named(rt: &(impl Env + Files + Print + Eprint)) {
         let _ = rt.eprintln("send: the name of the image is not UTF-8");
         return;
     };
-    send_file(
-        rt,
-        name,
-        Place {
-            offset,
-            block,
-            flash,
-        },
-    );
+    match send_file(rt, name, place) {
+        Ok(()) => {}
+        Err(Failure::Refused(error)) => {
+            let refusal = Refusal(error);
+            let _ = eprintln!(rt; "send: {refusal}");
+        }
+        Err(Failure::Image(error)) => fail(rt, name, &error),
+        Err(Failure::Output(error)) => fail(rt, "standard output", &error),
+    }
 }
 
-// Whether there is an argument with a number, be it longer than the space for it.
+// Whether there is an argument with a number, whatever its bytes: `env::args` fails where any argument is not UTF-8.
 fn is_given(rt: &impl Env, i: usize) -> bool {
-    let mut space = [0u8; 1];
-    !matches!(rt.arg(i, &mut space), Err(FillError::NotPresent))
+    !matches!(rt.arg(i, &mut []), Err(FillError::NotPresent))
 }
 
 fn main(rt: HostRuntime) {

@@ -1,5 +1,5 @@
 -- The blocks of a load, as the code takes them from the image.
-use mathlib.Core.Path.{◌≡◌, refl, ap}
+use mathlib.Core.Path.{◌≡◌, refl, ap, ◌∙◌}
 use mathlib.Core.List.{List}
 use Prim.Native.Nat.{ℕ, ◌+◌, ◌-◌, ◌*◌, ◌<◌, min}
 use native.Mathlib.Nat.{mul-le-mul_right}
@@ -14,7 +14,7 @@ use Rattle.esp_begin.proofs.Sectors.{next-block}
 use Rattle.esp_data.specs.Data.{padded, data_packet}
 use Rattle.sender.specs.Load.{announces}
 use Rattle.sender.specs.Packets.{piece, block_data, block_packet}
-use Rattle.sender.specs.Parts.{HasBlock}
+use Rattle.sender.specs.Parts.{HasBlock, HasPacket}
 use Rattle.sender.proofs.Sizes.{Sized}
 
 -- the count and the block size of a BEGIN that announces the load
@@ -26,11 +26,24 @@ pub announced-block : (size offset block : ℕ) (g : Begin) → g ≡ announces 
 unfolding announces
 announced-block size offset block g e = ap (λ x. x.block) e
 
--- a load that is let pass has each of its blocks
-pub has_block : (image : List ℕ) (offset block flash : ℕ) → Sized (length image) offset block flash → (k : ℕ) (g : Begin) → g ≡ announces (length image) offset block
-    → k < g.count → HasBlock g k image
+pub announced-offset : (size offset block : ℕ) (g : Begin) → g ≡ announces size offset block → g.offset ≡ offset
 unfolding announces
-has_block image offset block flash z k g e h = rw e (record { whole = refl; rounded = refl; least = z.least; most = z.most; among = rw e at h })
+announced-offset size offset block g e = ap (λ x. x.offset) e
+
+-- a load that is let pass has each of its packets
+pub has_packet : (image : List ℕ) (offset block flash : ℕ) → Sized (length image) offset block flash → (number : ℕ) (g : Begin) → g ≡ announces (length image) offset block
+    → number < g.count + 3 → HasPacket g number image
+unfolding announces
+has_packet image offset block flash z number g e h = rw e (record { whole = refl; rounded = refl; least = z.least; most = z.most; among = rw e at h })
+
+-- what such a BEGIN announces
+module _ (g : Begin) (number : ℕ) (image : List ℕ) (h : HasPacket g number image) where
+  pub announced-whole : g ≡ announces (length image) g.offset g.block
+  unfolding announces
+  announced-whole = rw (← h.whole, ← h.rounded) refl
+
+  pub announced-rounded : g.count ≡ count_of (length image) g.block
+  announced-rounded = h.rounded ∙ ap (λ (n : ℕ). count_of n g.block) h.whole
 
 -- block k begins inside the image, and its part of the image is what the code takes
 module _ (g : Begin) (k : ℕ) (image : List ℕ) (h : HasBlock g k image) where

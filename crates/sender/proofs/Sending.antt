@@ -9,15 +9,17 @@ use lib.Dec.{leb, ltb, eqb}
 use lib.ListN.{length}
 use Rattle.lists.specs.Checks.{Check, ◌or_else◌, first}
 use Rattle.lists.proofs.Tests.{first-append}
-use Rattle.slip_framing.specs.Frame.{framed, refused, wrote, Framing, framing, Frames}
-use Rattle.slip_framing.specs.declared.Framed.{Framed}
+use Rattle.slip_framing.specs.Frame.{framed, refused, wrote, frame_report, framing, Frames}
+use Rattle.std.specs.Prelude.{Result}
+use Rattle.slip_framing.specs.declared.FrameError.{FrameError}
 use Rattle.slip_framing.proofs.Refusals.{framing-short, framing_written}
 use Rattle.esp_begin.specs.Count.{count_of}
 use Rattle.esp_begin.specs.Flash.{flash_length}
 use Rattle.esp_requests.proofs.Lengths.{Frameable}
 use Rattle.sender.specs.Load.{packet_count}
 use Rattle.sender.specs.Packets.{packet_of}
-use Rattle.sender.specs.Sending.{load_checks, load_refusal, refusal, sending, no_total, total, counting, counting_file}
+use Rattle.sender.specs.Sending.{load_checks, load_refusal, refusal, packet_report, sending, Sends, no_total, total, counting, counting_file}
+use Rattle.sender.specs.declared.PacketError.{PacketError}
 use Rattle.sender.proofs.Sizes.{sized}
 use Rattle.sender.proofs.Packets.{packet_frameable}
 
@@ -41,10 +43,11 @@ module _ (image : List ℕ) (offset block flash number : ℕ) (buffer : List ℕ
   unfolding sending
   refusing n e h = rw (e, ne_eqb n 0 h) refl
 
-  -- the promise, from what the call comes to
-  pub sent_as : (r : Framed) (after : List ℕ) (x : Framing) → sending image offset block flash number buffer ≡ x → Frames x r after
-      → Frames (sending image offset block flash number buffer) r after
-  sent_as r after x e h = rw e h
+  -- a refused call leaves the buffer
+  pub refused_as : (n : ℕ) (r : Result ℕ PacketError) → packet_report r ≡ refused n
+      → sending image offset block flash number buffer ≡ record { report = refused n; buffer = buffer }
+      → Sends (sending image offset block flash number buffer) r buffer
+  refused_as n r t e = rw e (record { answer = t; buffer = refl })
 
   pub load-refused : (n : ℕ) → load_refusal (length image) offset block flash ≡ n → (n ≡ 0 → ⊥)
       → sending image offset block flash number buffer ≡ record { report = refused n; buffer = buffer }
@@ -77,10 +80,11 @@ module _ (image : List ℕ) (offset block flash number : ℕ) (buffer : List ℕ
       pub is-framing : sending image offset block flash number buffer ≡ framing p buffer
       is-framing = framing_as (leb (length (framed p)) (length buffer)) refl
 
-      -- the packet q is this one, and was framed
-      pub sent : (q : List ℕ) (r : Framed) (after : List ℕ) → q ≡ p → Frames (framing q buffer) r after
-          → Frames (sending image offset block flash number buffer) r after
-      sent q r after e f = sent_as r after (framing q buffer) (is-framing ∙ ap (λ x. framing x buffer) (sym e)) f
+      -- the packet was framed, or its frame refused
+      pub sent : (r : Result ℕ FrameError) (after : List ℕ) → Frames (framing p buffer) r after
+          → (s : Result ℕ PacketError) → packet_report s ≡ frame_report r
+          → Sends (sending image offset block flash number buffer) s after
+      sent r after f s e = rw is-framing (record { answer = e ∙ f.answer; buffer = f.buffer })
 
   -- where a length is told, nothing refused the call
   pub record Told : Type 0 where

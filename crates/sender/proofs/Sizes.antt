@@ -1,6 +1,6 @@
 -- What holds of the numbers of a load that the sender does not refuse.
 use Prim.Native.Nat.{ℕ, ◌+◌, ◌*◌, ◌%◌, ◌^◌, ◌≤◌, ◌<◌}
-use mathlib.Core.Path.{◌≡◌, refl, sym, ◌∙◌}
+use mathlib.Core.Path.{◌≡◌, refl, sym, ap, ◌∙◌}
 use mathlib.Core.Bool.{Bool, true, false}
 use native.Mathlib.Nat.{mul-le-mul_right, le-mul_of_pos_right}
 use native.Mathlib.Omega.{arith}
@@ -13,7 +13,11 @@ use Rattle.esp_begin.proofs.Rules.{ruled}
 use Rattle.esp_begin.proofs.Sectors.{next-block, round_le}
 use Rattle.esp_begin.specs.Flash.{flash_length}
 use Rattle.sender.specs.Load.{announces, InWords}
-use Rattle.sender.specs.Sending.{load_checks, load_refusal}
+use Rattle.sender.specs.Sending.{load_checks, load_refusal, load_number}
+use Rattle.sender.specs.declared.LoadError.{LoadError}
+use Rattle.sender.specs.declared.LoadError.TheVariants.{FlashLength, DoesNotFit}
+use Rattle.std.specs.Prelude.{Result, Ok, Err, ⊤}
+use Rattle.lists.specs.Checks.{number_by}
 
 -- `flash` is flash's length
 pub record Sized (size offset block flash : ℕ) : Type 0 where
@@ -26,9 +30,17 @@ pub record Sized (size offset block flash : ℕ) : Type 0 where
   pub within : offset + round_up size ≤ flash
   pub flash-most : flash ≤ 4194304
 
--- a load whose refusal was told as 0 is not refused
-pub accepted : (size offset block flash told : ℕ) → told ≡ load_refusal size offset block flash → told ≡ 0 → load_refusal size offset block flash ≡ 0
-accepted size offset block flash told e z = sym e ∙ z
+-- a load that the code's judgement lets pass is not refused, and one that it does not is refused by its number
+module _ (size offset block flash : ℕ) (r : Result ⊤ LoadError) (e : number_by load_number r ≡ load_refusal size offset block flash) where
+  pub accepted : (u : ⊤) → r ≡ Ok u → load_refusal size offset block flash ≡ 0
+  accepted u z = sym e ∙ ap (number_by load_number) z
+
+  pub denied : (x : LoadError) → r ≡ Err x → load_refusal size offset block flash ≡ load_number x
+  denied x z = sym e ∙ ap (number_by load_number) z
+
+pub load_number-not_0 : (x : LoadError) → load_number x ≡ 0 → ⊥
+load_number-not_0 FlashLength e = omega arith
+load_number-not_0 DoesNotFit e = omega arith
 
 -- a test that cannot hold
 fails : (t : Bool) → (t ≡ true → ⊥) → false ≡ t

@@ -1,14 +1,16 @@
 -- What the sending calls come to, for every input: their answers, and the buffer (document 02's "room") afterwards.
-use Rattle.std.specs.Prelude.{List, [], ◌∷◌, ◌++◌, false, cond, ℕ, nat_le, nat_lt, nat_eq, length}
+use Rattle.std.specs.Prelude.{◌≡◌, List, [], ◌∷◌, ◌++◌, false, cond, ℕ, nat_le, nat_lt, nat_eq, length, Result, Ok, Err}
 use Rattle.lists.specs.Lay.{lay}
 use Rattle.lists.specs.Checks.{Check, ◌or_else◌, first}
-use Rattle.slip_framing.specs.Frame.{framed, wrote, refused, Framing}
+use Rattle.slip_framing.specs.Frame.{framed, FrameReport, wrote, refused, frame_number, Framing}
 use Rattle.esp_begin.specs.Begin.{flash_rule}
 use Rattle.esp_begin.specs.Flash.{flash_length}
 use Rattle.sender.specs.Load.{announces, packet_count}
 use Rattle.sender.specs.Packets.{packet_of}
-use Rattle.sender.specs.declared.Count.{Count}
-use Rattle.sender.specs.declared.Count.TheVariants as code
+use Rattle.sender.specs.declared.LoadError.{LoadError}
+use Rattle.sender.specs.declared.LoadError.TheVariants.{FlashLength, DoesNotFit}
+use Rattle.sender.specs.declared.PacketError.{PacketError}
+use Rattle.sender.specs.declared.PacketError.TheVariants.{Load, NoSuchPacket, Frame}
 
 -- "3; 15 where the BEGIN, judged with the image's whole length, would be refused". All numbers are whole numbers here: behind 3, one that no 32-bit word holds breaks the BEGIN's rule too (NumbersAreWords). The rule for flash looks at no words.
 unfoldable pub load_checks : (size offset block flash : ℕ) → List Check
@@ -40,14 +42,34 @@ sending image offset block flash number buffer =
     })
     (record { report = refused (refusal image offset block flash number buffer); buffer = buffer })
 
+-- the numbers of the code's refusals
+abbrev pub load_number : LoadError → ℕ
+load_number FlashLength = 3
+load_number DoesNotFit = 15
+
+abbrev pub packet_number : PacketError → ℕ
+packet_number (Load e) = load_number e
+packet_number NoSuchPacket = 16
+packet_number (Frame e) = frame_number e
+
+-- what the call of a packet tells: a refusal by its number, or the framed length
+abbrev pub packet_report : Result ℕ PacketError → FrameReport
+packet_report (Ok n) = wrote n
+packet_report (Err e) = refused (packet_number e)
+
+-- the call's answer and the buffer at exit are those of f
+pub record Sends (f : Framing) (r : Result ℕ PacketError) (after : List ℕ) : Type 0 where
+  pub answer : packet_report r ≡ f.report
+  pub buffer : after ≡ f.buffer
+
 -- what the count of packets is told as: a refusal by its number, or so many packets
 pub data CountReport : Type 0 where
   no_total : ℕ → CountReport
   total : ℕ → CountReport
 
-abbrev pub count_report : Count → CountReport
-count_report (code.Refused n) = no_total n
-count_report (code.Packets n) = total n
+abbrev pub count_report : Result ℕ LoadError → CountReport
+count_report (Ok n) = total n
+count_report (Err e) = no_total (load_number e)
 
 unfoldable pub counting : (size offset block flash : ℕ) → CountReport
 counting size offset block flash =

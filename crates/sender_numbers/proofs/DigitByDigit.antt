@@ -1,10 +1,10 @@
 -- Laws of digits, one by one, and of numbers that are cut to the largest.
-use Prim.Native.Nat.{ℕ, ◌+◌, ◌-◌, ◌*◌, ◌/◌, ◌≤◌, ◌<◌, min}
+use Prim.Native.Nat.{ℕ, ◌+◌, ◌*◌, ◌≤◌, ◌<◌, min}
 use mathlib.Core.Path.{◌≡◌, refl}
 use mathlib.Core.List.{List, [], ◌∷◌}
 use mathlib.Core.Option.{none, some}
 use mathlib.Core.Bool.{Bool, true, false, cond, ◌&&◌}
-use native.Mathlib.Nat.{le-div_iff_mul-le, div-lt_iff_lt-mul, le-mul_of_pos_right}
+use native.Mathlib.Nat.{le-mul_of_pos_right}
 use native.Mathlib.Numerals.{add-one}
 use native.Mathlib.Omega.{arith}
 use borrow.Author.Tests.{ltb-true, ltb-false, lt-ltb, le-ltb}
@@ -12,13 +12,6 @@ use lib.Dec.{ltb, eqb}
 use lib.ListN.{length, drop, get_or, drop_of_length-le}
 use lib.Seq.{drop-cons}
 use Rattle.sender_numbers.specs.Numbers.{largest, digit_value, digits_from, digits_of, is_hex}
-
--- whether one more digit still fits
-pub fits : (n base d : ℕ) → 1 ≤ base → d ≤ largest → n ≤ (largest - d) / base → n * base + d ≤ largest
-fits n base d h k e = let p : n * base ≤ largest - d = (le-div_iff_mul-le h).0 e in omega arith
-
-pub too_large : (n base d : ℕ) → 1 ≤ base → (largest - d) / base < n → largest ≤ n * base + d
-too_large n base d h e = let p : largest - d < n * base = (div-lt_iff_lt-mul h).0 e in omega arith
 
 -- cut to the largest before a digit or after it, it is the same
 cut-same : (base a b d : ℕ) → 1 ≤ base → min a largest ≡ min b largest → min (a * base + d) largest ≡ min (b * base + d) largest

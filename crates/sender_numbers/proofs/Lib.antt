@@ -1,1 +1,2 @@
 pub mod DigitByDigit
+pub mod Library

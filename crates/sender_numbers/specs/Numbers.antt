@@ -1,8 +1,8 @@
 -- Numbers as text in ASCII: decimal, or hexadecimal behind 0x.
 use Rattle.std.specs.Prelude.{ℕ, ◌+◌, ◌-◌, ◌*◌, ◌^◌, min, List, [], ◌∷◌, Bool, cond, ◌&&◌, ◌||◌, nat_le, nat_lt, nat_eq, drop, get_or}
 use Rattle.std.proofs.Math.Option.{Option, none, some}
-use Rattle.sender_numbers.specs.declared.Number.{Number}
-use Rattle.sender_numbers.specs.declared.Number.TheVariants.{Wrong, Good}
+use Rattle.std.specs.declared.option.Option.{Option as Answer}
+use Rattle.std.specs.declared.option.Option.TheVariants.{Some, None}
 
 -- what a larger number counts as
 abbrev pub largest : ℕ
@@ -34,6 +34,6 @@ unfoldable pub number_of : List ℕ → Option ℕ
 number_of s = cond (is_hex s) (digits_of 16 (drop 2 s)) (digits_of 10 s)
 
 -- what each answer of the reader says
-abbrev pub said : Number → Option ℕ
-said Wrong = none
-said (Good n) = some n
+abbrev pub said : Answer ℕ → Option ℕ
+said None = none
+said (Some n) = some n

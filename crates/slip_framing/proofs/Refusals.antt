@@ -2,12 +2,13 @@
 use Prim.Native.Nat.{ℕ, ◌≤◌, ◌<◌}
 use mathlib.Core.Path.{◌≡◌, subst}
 use mathlib.Core.List.{List}
+use Rattle.std.specs.Prelude.{Result}
 use lib.ListN.{length}
 use borrow.Author.Tests.{le-leb, lt-leb}
 use Rattle.lists.specs.Lay.{lay}
 use Rattle.lists.specs.Checks.{first}
 use Rattle.slip_framing.specs.Frame.{longest, framed, refused, wrote, frame_report, refusal, Framing, framing, Frames}
-use Rattle.slip_framing.specs.declared.Framed.{Framed}
+use Rattle.slip_framing.specs.declared.FrameError.{FrameError}
 
 module _ (p buffer : List ℕ) where
   pub framing-empty : length p < 1 → framing p buffer ≡ record { report = refused 6; buffer = buffer }
@@ -28,9 +29,9 @@ module _ (p buffer : List ℕ) where
     framing_written h k = rw (le-leb 1 (length p) filled, le-leb (length p) longest h, le-leb (length (framed p)) (length buffer) k)
 
 -- the promise, from what the routine comes to
-pub frames_as : (p buffer : List ℕ) (r : Framed) (after : List ℕ) {f : Framing} → framing p buffer ≡ f → frame_report r ≡ f.report → after ≡ f.buffer → Frames (framing p buffer) r after
+pub frames_as : (p buffer : List ℕ) (r : Result ℕ FrameError) (after : List ℕ) {f : Framing} → framing p buffer ≡ f → frame_report r ≡ f.report → after ≡ f.buffer → Frames (framing p buffer) r after
 frames_as p buffer r after e x y = rw e (record { answer = x; buffer = y })
 
 -- the same bytes, said otherwise
-pub framed_as : (bytes whole buffer after : List ℕ) (f : Framed) → bytes ≡ whole → Frames (framing bytes buffer) f after → Frames (framing whole buffer) f after
+pub framed_as : (bytes whole buffer after : List ℕ) (f : Result ℕ FrameError) → bytes ≡ whole → Frames (framing bytes buffer) f after → Frames (framing whole buffer) f after
 framed_as bytes whole buffer after f e h = subst (λ (p : List ℕ). Frames (framing p buffer) f after) e h

@@ -1,9 +1,9 @@
 -- "Written packets are framed C0, escaped bytes, C0", and the framing routine with its refusals 6, 7 and 8.
-use Rattle.std.specs.Prelude.{ℕ, ◌+◌, ◌*◌, ◌≡◌, List, [], ◌∷◌, ◌++◌, cond, length, nat_le, nat_eq}
+use Rattle.std.specs.Prelude.{ℕ, ◌+◌, ◌*◌, ◌≡◌, List, [], ◌∷◌, ◌++◌, cond, length, nat_le, nat_eq, Result, Ok, Err, Option, Some, None}
 use Rattle.lists.specs.Lay.{lay}
 use Rattle.lists.specs.Checks.{◌or_else◌, first}
-use Rattle.slip_framing.specs.declared.Framed.{Framed}
-use Rattle.slip_framing.specs.declared.Framed.TheVariants.{Refused, Written}
+use Rattle.slip_framing.specs.declared.FrameError.{FrameError}
+use Rattle.slip_framing.specs.declared.FrameError.TheVariants.{Empty, TooLong, BufferTooShort}
 
 -- the byte that ends one packet and opens the next
 abbrev pub end_byte : ℕ
@@ -32,6 +32,11 @@ longest_frame = 2 * longest + 2
 abbrev pub escape_of : ℕ → List ℕ
 escape_of b = cond (nat_eq b end_byte) (esc_byte ∷ esc_end_byte ∷ []) (cond (nat_eq b esc_byte) (esc_byte ∷ esc_esc_byte ∷ []) (b ∷ []))
 
+-- a byte as the code writes it: behind ESC a second byte, or itself
+abbrev pub written_as : ℕ → Option ℕ → List ℕ
+written_as b (Some second) = esc_byte ∷ second ∷ []
+written_as b None = b ∷ []
+
 unfoldable pub escaped : List ℕ → List ℕ
 escaped [] = []
 escaped (b ∷ bs) = escape_of b ++ escaped bs
@@ -49,11 +54,17 @@ pub data FrameReport : Type 0 where
   refused : ℕ → FrameReport
   wrote : ℕ → FrameReport
 
-abbrev pub frame_report : Framed → FrameReport
-frame_report (Refused n) = refused n
-frame_report (Written n) = wrote n
+-- "6 empty packet; 7 packet over 4,120 bytes; 8 room shorter than the framed length"
+abbrev pub frame_number : FrameError → ℕ
+frame_number Empty = 6
+frame_number TooLong = 7
+frame_number BufferTooShort = 8
 
--- "refuses in order: 6 empty packet; 7 packet over 4,120 bytes; 8 room shorter than the framed length"
+abbrev pub frame_report : Result ℕ FrameError → FrameReport
+frame_report (Ok n) = wrote n
+frame_report (Err e) = refused (frame_number e)
+
+-- "refuses in order"
 unfoldable pub refusal : List ℕ → List ℕ → ℕ
 refusal p buffer =
     first
@@ -74,6 +85,6 @@ framing p buffer =
     (record { report = refused (refusal p buffer); buffer = buffer })
 
 -- the routine's answer and the buffer at exit are those of f
-pub record Frames (f : Framing) (r : Framed) (after : List ℕ) : Type 0 where
+pub record Frames (f : Framing) (r : Result ℕ FrameError) (after : List ℕ) : Type 0 where
   pub answer : frame_report r ≡ f.report
   pub buffer : after ≡ f.buffer

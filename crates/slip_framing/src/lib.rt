@@ -3,7 +3,9 @@
 
 ghost use Rattle.std.specs.Prelude.{◌≡◌, ◌++◌, ◌+◌, ◌≤◌, min, length};
 ghost use Rattle.lists.specs.Lay.{lay};
-ghost use Rattle.slip_framing.specs.Frame.{longest, escape_of, escaped, framed, framing, Frames};
+ghost use Rattle.slip_framing.specs.Frame.{longest, escape_of, escaped, framed, framing, frame_number, written_as, Frames};
+
+use lists::ensure;
 
 // The longest packet, unescaped.
 pub const LONGEST: usize = 4120;
@@ -20,13 +22,35 @@ pub const ESC_END: u8 = 0xDC;
 
 pub const ESC_ESC: u8 = 0xDD;
 
-// What the framing routine answers.
-#[derive(Clone, Copy)]
-pub enum Framed {
-    // refused with this number: nothing is written, and there is nothing to send
-    Refused(u8),
-    // the framed packet is so many bytes from the front of the buffer: send these
-    Written(usize),
+// Why a packet is not framed: nothing is written then, and there is nothing to send.
+#[derive(Clone, Copy, PartialEq, Eq)]
+pub enum FrameError {
+    Empty,
+    TooLong,
+    BufferTooShort,
+}
+
+impl From<FrameError> for u8 {
+    ghost from_gives = { λ error number. number ≡ frame_number error };
+
+    fn from(error: FrameError) -> u8 {
+        match error {
+            FrameError::Empty => 6,
+            FrameError::TooLong => 7,
+            FrameError::BufferTooShort => 8,
+        }
+    }
+}
+
+// The byte that stands behind ESC for this one, or none where it is written as it is.
+fn escape(byte: u8) -> Option<u8>
+    ensures { escape_of byte ≡ written_as byte result }
+{
+    match byte {
+        END => Some(ESC_END),
+        ESC => Some(ESC_ESC),
+        _ => None,
+    }
 }
 
 // One byte of a packet, escaped, from `at` on; the next place.
@@ -34,31 +58,27 @@ fn put(buffer: &mut [u8], at: usize, byte: u8) -> usize
     requires { at + length (escape_of byte) ≤ length buffer.old }
     ensures { (result ≡ at + length (escape_of byte)) × (buffer.new ≡ lay buffer.old at (escape_of byte)) }
 {
-    if byte == END {
-        buffer[at] = ESC;
-        buffer[at + 1] = ESC_END;
-        return at + 2;
+    match escape(byte) {
+        Some(second) => {
+            buffer[at] = ESC;
+            buffer[at + 1] = second;
+            at + 2
+        }
+        None => {
+            buffer[at] = byte;
+            at + 1
+        }
     }
-    if byte == ESC {
-        buffer[at] = ESC;
-        buffer[at + 1] = ESC_ESC;
-        return at + 2;
-    }
-    buffer[at] = byte;
-    at + 1
 }
 
 // How many bytes a byte is escaped to.
 fn width(byte: u8) -> usize
     ensures { result ≡ length (escape_of byte) }
 {
-    if byte == END {
-        return 2;
+    match escape(byte) {
+        Some(_) => 2,
+        None => 1,
     }
-    if byte == ESC {
-        return 2;
-    }
-    1
 }
 
 // How many bytes a packet is escaped to.
@@ -67,10 +87,8 @@ fn escaped_len(packet: &[u8]) -> usize
     ensures { result ≡ length (escaped packet.now) }
 {
     let mut n: usize = 0;
-    let mut i: usize = 0;
-    while i < packet.len() {
-        n += width(packet[i]);
-        i += 1;
+    for byte in packet {
+        n += width(*byte);
     }
     n
 }
@@ -82,10 +100,8 @@ fn put_all(buffer: &mut [u8], at: usize, part: &[u8]) -> usize
         × (buffer.new ≡ lay buffer.old at (escaped part.now)) }
 {
     let mut to = at;
-    let mut i: usize = 0;
-    while i < part.len() {
-        to = put(buffer, to, part[i]);
-        i += 1;
+    for byte in part {
+        to = put(buffer, to, *byte);
     }
     to
 }
@@ -107,35 +123,31 @@ fn write_frame(head: &[u8], body: &[u8], tail: &[u8], buffer: &mut [u8])
 fn counted(part: &[u8]) -> usize
     ensures { result ≡ min (length part.now) (longest + 1) }
 {
-    if part.len() <= LONGEST {
-        return part.len();
-    }
-    LONGEST + 1
+    part.len().min(LONGEST + 1)
 }
 
 // A packet that comes in three parts, framed as `frame` does, with no copy made of it.
-pub fn frame_parts(head: &[u8], body: &[u8], tail: &[u8], buffer: &mut [u8]) -> Framed
+pub fn frame_parts(
+    head: &[u8],
+    body: &[u8],
+    tail: &[u8],
+    buffer: &mut [u8],
+) -> Result<usize, FrameError>
     ensures { Frames (framing (head.now ++ (body.now ++ tail.now)) buffer.old)
         result buffer.new }
 {
     let total = counted(head) + counted(body) + counted(tail);
-    if total < 1 {
-        return Framed::Refused(6);
-    }
-    if LONGEST < total {
-        return Framed::Refused(7);
-    }
+    ensure(0 < total, FrameError::Empty)?;
+    ensure(total <= LONGEST, FrameError::TooLong)?;
     let n = escaped_len(head) + escaped_len(body) + escaped_len(tail) + 2;
-    if buffer.len() < n {
-        return Framed::Refused(8);
-    }
+    ensure(n <= buffer.len(), FrameError::BufferTooShort)?;
     write_frame(head, body, tail, buffer);
-    Framed::Written(n)
+    Ok(n)
 }
 
-// A packet framed at the front of a buffer, or a refusal: 6 empty packet, 7 packet too long, 8 buffer too short. A buffer of 8,242 bytes
-// holds every packet's frame.
-pub fn frame(packet: &[u8], buffer: &mut [u8]) -> Framed
+// A packet framed at the front of a buffer: the framed length, how many bytes from the front to send. A buffer of 8,242 bytes holds every
+// packet's frame. It is lent, since there is no heap.
+pub fn frame(packet: &[u8], buffer: &mut [u8]) -> Result<usize, FrameError>
     ensures { Frames (framing packet.now buffer.old) result buffer.new }
 {
     frame_parts(packet, b"", b"", buffer)

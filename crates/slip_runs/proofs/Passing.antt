@@ -72,7 +72,7 @@ module _
 
 -- all of the run is passed, and nothing was closed
 pub whole : (l : Line) (bytes before : List ℕ) (i : ℕ) (m : Line) (buffer : List ℕ) → i ≡ length bytes → Leads l bytes before i m buffer
-    → Runs (run_of l bytes before) (record { taken = i; closing = Open; line = m }) buffer
+    → Runs (run_of l bytes before) (record { taken = length bytes; closing = Open; line = m }) buffer
 unfolding run_of
 whole l bytes before i m buffer e led =
     rw (led, e, drop-length bytes) (record { taken = sym (add-zero (length bytes)); closed = refl; line = refl; buffer = refl })

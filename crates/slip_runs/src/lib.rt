@@ -21,11 +21,7 @@ pub struct Ran {
 fn is_closed(closing: Closing) -> bool
     ensures { result ≡ closes closing }
 {
-    match closing {
-        Closing::Open => false,
-        Closing::Whole(_) => true,
-        Closing::Broken(_, _) => true,
-    }
+    !matches!(closing, Closing::Open)
 }
 
 // A run of line bytes: it is taken up to and with the byte that closes a packet, or whole where none does. The buffer is lent as for
@@ -34,24 +30,19 @@ pub fn run(line: Line, bytes: &[u8], buffer: &mut [u8]) -> Ran
     ensures { Runs (run_of line bytes.now buffer.old) result buffer.new }
 {
     let mut state = line;
-    let mut i: usize = 0;
-    while i < bytes.len() {
-        let stepped = slip_unframing::step(state, bytes[i], buffer);
-        let closing = stepped.closing;
-        let next = stepped.line;
-        let upto = i + 1;
-        if is_closed(closing) {
+    for (i, byte) in bytes.iter().enumerate() {
+        let stepped = slip_unframing::step(state, *byte, buffer);
+        if is_closed(stepped.closing) {
             return Ran {
-                taken: upto,
-                closing,
-                line: next,
+                taken: i + 1,
+                closing: stepped.closing,
+                line: stepped.line,
             };
         }
-        state = next;
-        i = upto;
+        state = stepped.line;
     }
     Ran {
-        taken: i,
+        taken: bytes.len(),
         closing: Closing::Open,
         line: state,
     }

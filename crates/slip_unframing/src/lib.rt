@@ -16,7 +16,8 @@ pub enum Phase {
     Overlong,
 }
 
-// The line's state: its phase, and how many bytes of the open packet are stored. The caller keeps it from byte to byte.
+// The line's state: its phase, and how many bytes of the open packet are stored, at the front of a buffer that is lent, since there is no
+// heap. The caller keeps it from byte to byte.
 #[derive(Clone, Copy)]
 pub struct Line {
     pub phase: Phase,

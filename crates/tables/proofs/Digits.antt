@@ -1,25 +1,11 @@
 -- Laws of digits and of the bytes that pairs of them say.
-use Rattle.std.proofs.Common.{◌≡◌, ℕ, zero, suc, ◌+◌, ◌*◌, ◌/◌, ◌<◌, ◌≤◌, true, false, cond, List, length, get_or, take, drop, set, refl, sym, add-one, arith, length-append, drop_of_length-le, drop-cons, take_at}
+use Rattle.std.proofs.Common.{◌≡◌, ◌-◌, ℕ, zero, suc, ◌+◌, ◌*◌, ◌/◌, ◌<◌, ◌≤◌, List, length, get_or, take, set, refl, sym, add-one, arith, length-append, take_at, le-leb}
 use Rattle.lists.specs.Lay.{lay, lay_if_fits}
 use Rattle.lists.proofs.Fits.{lay-fits}
 use Rattle.lists.proofs.Laws.{lay-more, lay-lay, length-lay, set-set-lay}
 use Rattle.digits.specs.Hex.{hex2}
-use Rattle.tables.specs.Hex.{is_digit, all_digits, pair_at, bytes_in, unhex, digits_in, hex_text, most_shown}
-
-module _ (s : List ℕ) (i : ℕ) (e : all_digits (drop i s) ≡ all_digits s) where
-  next : i < length s → all_digits s ≡ cond (is_digit (get_or s i 0)) (all_digits (drop (i + 1) s)) false
-  unfolding all_digits
-  next h = rw (← e, add-one, drop-cons s i 0 h)
-
-  pub digits_more : i < length s → is_digit (get_or s i 0) ≡ true → all_digits (drop (i + 1) s) ≡ all_digits s
-  digits_more h q = rw (next h, q)
-
-  pub digits_stop : i < length s → is_digit (get_or s i 0) ≡ false → false ≡ all_digits s
-  digits_stop h q = rw (next h, q)
-
-  pub digits-end : length s ≤ i → true ≡ all_digits s
-  unfolding all_digits
-  digits-end h = rw (← e, drop_of_length-le s h)
+use Rattle.tables.specs.Fields.{part_of}
+use Rattle.tables.specs.Hex.{pair_at, bytes_in, unhex, digits_in, hex_text, most_shown}
 
 pub length_bytes : (s : List ℕ) (n : ℕ) → length (bytes_in s n) ≡ n
 unfolding bytes_in
@@ -43,6 +29,17 @@ said s n h = rw (length_bytes s (length s / 2)) (omega arith)
 pub unsaid : (s : List ℕ) (n : ℕ) → n < length s / 2 → n < 0 + length (unhex s)
 unfolding unhex
 unsaid s n h = rw (length_bytes s (length s / 2)) (omega arith)
+
+-- the front of a buffer, after what a text says was written there
+pub decoded :
+    (d s after : List ℕ) → length s / 2 ≤ length d → after ≡ lay_if_fits d 0 (unhex s) → part_of after 0 (length s / 2) ≡ unhex s
+unfolding part_of lay
+decoded d s after fits e =
+    let n : length (unhex s) ≡ length s / 2 = unfold unhex in length_bytes s (length s / 2) in
+    let l : length (lay d 0 (unhex s)) ≡ length d = length-lay d 0 (unhex s) (said s (length d) fits) in
+    let z : length s / 2 - 0 ≡ length s / 2 = omega arith in
+    rw (e, lay-fits d 0 (unhex s) (said s (length d) fits), le-leb 0 (length s / 2) (omega arith), z, le-leb (length s / 2) (length (lay d 0 (unhex s))) (omega arith))
+    (take_at (unhex s) _ (length s / 2) n)
 
 pub length_digits : (s : List ℕ) (n : ℕ) → length (digits_in s n) ≡ 2 * n
 unfolding digits_in

@@ -1,3 +1,4 @@
-pub mod Places
+pub mod Behind
 pub mod Digits
-pub mod Numbers
+pub mod Lines
+pub mod Names

@@ -1,5 +1,6 @@
 -- Bytes as text: two hexadecimal digits each, in upper case.
-use Rattle.std.specs.Prelude.{ℕ, zero, suc, ◌+◌, ◌-◌, ◌*◌, ◌/◌, ◌%◌, Bool, true, false, cond, ◌&&◌, ◌||◌, List, [], ◌∷◌, ◌++◌, length, ◌==◌, nat_le, slice_index}
+use Rattle.std.specs.Prelude.{ℕ, zero, suc, ◌+◌, ◌-◌, ◌*◌, ◌/◌, ◌%◌, Bool, cond, ◌&&◌, ◌||◌, List, [], ◌∷◌, ◌++◌, length, ◌==◌, nat_le, slice_index}
+use Rattle.std.specs.List.{list_all}
 use Rattle.digits.specs.Hex.{hex2}
 
 -- 0 to 9, A to F
@@ -11,8 +12,7 @@ unfoldable pub value_of : ℕ → ℕ
 value_of c = cond (nat_le c 57) ((c - 48) % 16) ((c - 55) % 16)
 
 unfoldable pub all_digits : List ℕ → Bool
-all_digits [] = true
-all_digits (c ∷ cs) = cond (is_digit c) (all_digits cs) false
+all_digits s = list_all is_digit s
 
 -- pairs of digits
 unfoldable pub is_hex : List ℕ → Bool

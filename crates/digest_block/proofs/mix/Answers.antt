@@ -1,20 +1,20 @@
--- By the number of the round.
-use Rattle.std.proofs.Common.{◌≡◌, refl, arith}
+-- By the function.
+use Rattle.std.proofs.Common.{refl}
 use Rattle.digest_block.specs.Functions.{mixed}
 use Rattle.digest_block.proofs.mix.Goals as goal
 
-pub returns-in-0 : goal.returns-in-0
+pub returns-in-F : goal.returns-in-F
 unfolding mixed
-returns-in-0 c = rw c.in-0.is refl
+returns-in-F c = rw c.in-F.is refl
 
-pub returns-in-1 : goal.returns-in-1
+pub returns-in-G : goal.returns-in-G
 unfolding mixed
-returns-in-1 c = rw c.in-1.is refl
+returns-in-G c = rw c.in-G.is refl
 
-pub returns-in-2 : goal.returns-in-2
+pub returns-in-H : goal.returns-in-H
 unfolding mixed
-returns-in-2 c = rw c.in-2.is refl
+returns-in-H c = rw c.in-H.is refl
 
-pub returns-in_default : goal.returns-in_default
+pub returns-in-I : goal.returns-in-I
 unfolding mixed
-returns-in_default c = let e : c.args.n ≡ 3 = omega (arith, c.in_default.in_default-own.rest.1, c.in_default.in_default-own.rest.0.1, c.in_default.in_default-own.rest.0.0.1) in rw e refl
+returns-in-I c = rw c.in-I.is refl

@@ -9,4 +9,4 @@ overflow_add-last c = omega arith
 
 pub returns : goal.returns
 unfolding flash_rule
-returns c = rw (c.count_good.ensures, c.round_up.ensures) refl
+returns c = rw (c.from.ensures, c.count_good.ensures, c.round_up.ensures) refl

@@ -5,4 +5,4 @@ use Rattle.esp_parameters.proofs.in_words.Goals as goal
 
 pub returns : goal.returns
 unfolding in_words
-returns c = rw (c.up_to_end.ensures, ← (add-one c.args.address)) refl
+returns c = rw (c.up_to_end.ensures, c.from.ensures, ← (add-one c.args.address)) refl

@@ -6,4 +6,4 @@ pub returns : goal.returns
 returns c = let at-frame = c in
     let at_words = at-frame in
     let g = at_words.args.begin in
-    framed_as _ _ _ _ _ (begin-whole g at_words.header-head.ensures at_words.four_words-words.ensures) at-frame.frame_parts.ensures
+    framed_as _ _ _ _ _ (begin-whole g (rw at_words.from.ensures at at_words.header-head.ensures) at_words.four_words-words.ensures) at-frame.frame_parts.ensures

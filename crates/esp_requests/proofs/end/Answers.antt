@@ -7,4 +7,4 @@ pub returns : goal.returns
 unfolding request end_packet
 returns c = let at-frame = c in
     let at-word = at-frame in
-    framed_as _ _ _ _ _ (rw (at-word.header-head.ensures, at-word.bytes_of-word.ensures) refl) at-frame.frame_parts.ensures
+    framed_as _ _ _ _ _ (rw (at-word.header-head.ensures, at-word.from.ensures, at-word.bytes_of-word.ensures) refl) at-frame.frame_parts.ensures

@@ -6,4 +6,4 @@ use Rattle.esp_requests.proofs.sync.Goals as goal
 pub returns : goal.returns
 unfolding request sync_packet
 returns c = let at-frame = c in
-    framed_as _ _ _ _ _ (rw at-frame.header-head.ensures refl) at-frame.frame_parts.ensures
+    framed_as _ _ _ _ _ (rw (at-frame.header-head.ensures, at-frame.from.ensures) refl) at-frame.frame_parts.ensures

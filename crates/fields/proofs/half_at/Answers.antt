@@ -1,5 +1,5 @@
 -- Where the place is past the end the number is 0; elsewhere its two bytes are summed.
-use mathlib.Core.Path.{refl}
+use Rattle.std.proofs.Common.{rules}
 use Rattle.fields.specs.Words.{half}
 use Rattle.fields.proofs.Words.{half-past}
 use Rattle.fields.proofs.half_at.Goals as goal
@@ -9,4 +9,4 @@ returns-then-s-at c = half-past _ _ c.if-s-at.true
 
 pub returns : goal.returns
 unfolding half
-returns c = rw (c.byte_at-b.ensures.0, c.byte_at-a.ensures.0) refl
+returns c = search rules

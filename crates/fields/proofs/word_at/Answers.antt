@@ -1,5 +1,5 @@
 -- Where the place is past the end the word is 0; elsewhere its four bytes are summed.
-use mathlib.Core.Path.{refl}
+use Rattle.std.proofs.Common.{rules}
 use Rattle.fields.specs.Words.{word}
 use Rattle.fields.proofs.Words.{word-past}
 use Rattle.fields.proofs.word_at.Goals as goal
@@ -9,4 +9,4 @@ returns-then-s-at c = word-past _ _ c.if-s-at.true
 
 pub returns : goal.returns
 unfolding word
-returns c = rw (c.byte_at-d.ensures.0, c.byte_at-c.ensures.0, c.byte_at-b.ensures.0, c.byte_at-a.ensures.0) refl
+returns c = search rules

@@ -7,6 +7,6 @@ pub returns-then-held-eq0 : goal.returns-then-held-eq0
 unfolding kept
 returns-then-held-eq0 c = rw (eq-eqb _ _ c.if-held-eq0.true)
 
-pub returns : goal.returns
+pub returns-else-held-eq0 : goal.returns-else-held-eq0
 unfolding kept
-returns c = rw (ne_eqb _ _ c.if-held-eq0.false)
+returns-else-held-eq0 c = rw (ne_eqb _ _ c.if-held-eq0.false)

@@ -6,9 +6,9 @@ use Rattle.link_events.proofs.pull_line.Goals as goal
 pub returns-then-is_waiting : goal.returns-then-is_waiting
 unfolding in_baud
 returns-then-is_waiting c = let waiting = c in
-    rw c.enter.ensures at c.reply_with.ensures
+    rw c.enter-next.ensures at c.reply_with.ensures
     ∙ pulled_waiting waiting.args.link waiting.args.tick (sym waiting.is_waiting.ensures ∙ c.if-is_waiting.true)
 
-pub returns : goal.returns
-returns c = let waiting = c in
+pub returns-else-is_waiting : goal.returns-else-is_waiting
+returns-else-is_waiting c = let waiting = c in
     c.stay.ensures ∙ pulled_ignored waiting.args.link waiting.args.tick (sym waiting.is_waiting.ensures ∙ c.if-is_waiting.false)

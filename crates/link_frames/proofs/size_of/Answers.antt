@@ -1,27 +1,27 @@
-use Rattle.lists.proofs.Laws.{tests}
 use Rattle.link_frames.specs.Frames.{size}
+use Rattle.link_frames.proofs.ByKind.{kind_found}
 use Rattle.link_frames.proofs.size_of.Goals as goal
 
-pub returns-in-1 : goal.returns-in-1
+pub returns-in-Ok-Heartbeat : goal.returns-in-Ok-Heartbeat
 unfolding size
-returns-in-1 c = rw c.in-1.is
+returns-in-Ok-Heartbeat c = kind_found _ _ _ _ _ _ _ _ (rw c.in-Ok-Heartbeat.field-0-is at c.in-Ok-Heartbeat.ensures)
 
-pub returns-in-2 : goal.returns-in-2
+pub returns-in-Ok-Status : goal.returns-in-Ok-Status
 unfolding size
-returns-in-2 c = rw c.in-2.is
+returns-in-Ok-Status c = kind_found _ _ _ _ _ _ _ _ (rw c.in-Ok-Status.field-0-is at c.in-Ok-Status.ensures)
 
-pub returns-in-3 : goal.returns-in-3
+pub returns-in-Ok-Baud : goal.returns-in-Ok-Baud
 unfolding size
-returns-in-3 c = rw c.in-3.is
+returns-in-Ok-Baud c = kind_found _ _ _ _ _ _ _ _ (rw c.in-Ok-Baud.field-0-is at c.in-Ok-Baud.ensures)
 
-pub returns-in-4 : goal.returns-in-4
+pub returns-in-Ok-Control : goal.returns-in-Ok-Control
 unfolding size
-returns-in-4 c = rw c.in-4.is
+returns-in-Ok-Control c = kind_found _ _ _ _ _ _ _ _ (rw c.in-Ok-Control.field-0-is at c.in-Ok-Control.ensures)
 
-pub returns-in-5 : goal.returns-in-5
+pub returns-in-Ok-Data : goal.returns-in-Ok-Data
 unfolding size
-returns-in-5 c = rw c.in-5.is
+returns-in-Ok-Data c = rw c.from.ensures (kind_found _ _ _ _ _ _ _ _ (rw c.in-Ok-Data.field-0-is at c.in-Ok-Data.ensures))
 
-pub returns-in_default : goal.returns-in_default
+pub returns-in-Err : goal.returns-in-Err
 unfolding size
-returns-in_default c = search tests
+returns-in-Err c = kind_found _ _ _ _ _ _ _ _ c.in-Err.ensures

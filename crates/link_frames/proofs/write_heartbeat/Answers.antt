@@ -4,4 +4,4 @@ use Rattle.link_frames.proofs.write_heartbeat.Goals as goal
 
 pub returns : goal.returns
 unfolding frame_of xored
-returns c = c.write.ensures
+returns c = rw c.from-kind.ensures at c.write.ensures

@@ -15,6 +15,6 @@ unfolding fresh
 returns-then-is_lost c = let args = c.args in
     rw c.restart.ensures (sym (when_lost args.link args.tick (sym c.is_lost.ensures ∙ c.if-is_lost.true)))
 
-pub returns : goal.returns
+pub returns-else-is_lost : goal.returns-else-is_lost
 unfolding checked
-returns c = rw c.still_dead.ensures (sym (cond-false _ _ _ (sym c.is_lost.ensures ∙ c.if-is_lost.false)))
+returns-else-is_lost c = rw c.still_dead.ensures (sym (cond-false _ _ _ (sym c.is_lost.ensures ∙ c.if-is_lost.false)))

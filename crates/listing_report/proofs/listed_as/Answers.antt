@@ -1,4 +1,5 @@
 -- By what the loader told.
+use Rattle.std.proofs.Common.{inl, inr}
 use Rattle.listing_report.specs.Listing.{report_of}
 use Rattle.listing_report.proofs.listed_as.Goals as goal
 
@@ -8,12 +9,4 @@ returns-in-Refused c = rw c.in-Refused.is
 
 pub returns-in-Taken : goal.returns-in-Taken
 unfolding report_of
-returns-in-Taken c = rw c.in-Taken.is
-
-pub returns-in-Dropped : goal.returns-in-Dropped
-unfolding report_of
-returns-in-Dropped c = rw c.in-Dropped.is
-
-pub returns-in-Answered : goal.returns-in-Answered
-unfolding report_of
-returns-in-Answered c = rw c.in-Answered.is
+returns-in-Taken c = elim c.in-Taken.is [ inl e ↦ rw e | inr (inl e) ↦ rw e.2 | inr (inr e) ↦ rw e.5 ]

@@ -1,18 +1,11 @@
+use Rattle.std.proofs.Common.{inl, inr}
 use Rattle.listing_report.specs.Listing.{number_after}
 use Rattle.listing_report.proofs.next_number.Goals as goal
 
 pub returns-in-Refused : goal.returns-in-Refused
 unfolding number_after
-returns-in-Refused c = rw c.in-Refused.is
-
-pub returns-in-Taken : goal.returns-in-Taken
-unfolding number_after
-returns-in-Taken c = rw c.in-Taken.is
+returns-in-Refused c = elim c.in-Refused.is [ inl e ↦ rw e.1 | inr e ↦ rw e ]
 
 pub returns-in-Dropped : goal.returns-in-Dropped
 unfolding number_after
-returns-in-Dropped c = rw c.in-Dropped.is c.wrapping_add_u64.ensures.value
-
-pub returns-in-Answered : goal.returns-in-Answered
-unfolding number_after
-returns-in-Answered c = rw c.in-Answered.is c.wrapping_add_u64-in-Answered.ensures.value
+returns-in-Dropped c = elim c.in-Dropped.is [ inl e ↦ rw e.2 | inr e ↦ rw e.5 ]

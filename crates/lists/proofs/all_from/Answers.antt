@@ -1,12 +1,13 @@
-use native.Mathlib.Omega.{arith}
-use Rattle.lists.proofs.Lists.{all_more, all_stop, all_end}
+-- Each byte from the place on passes the closure's test, or one does not.
+use mathlib.Core.Path.{◌≡◌}
+use Rattle.std.proofs.Common.{rules, tests}
+use Rattle.std.proofs.lemmas.Iterator.{YieldsList-from_slice, cases_from_all}
+use Rattle.std.proofs.lemmas.Iterator.Adapters.{YieldsList-from_skip}
+use Rattle.lists.proofs.Lists.{all_decided}
 use Rattle.lists.proofs.all_from.Goals as goal
 
-pub returns-then-s-i : goal.returns-then-s-i
-returns-then-s-i c = all_stop _ c.args.s.now c.loop-i.i _ c.loop-i.invariant (omega arith) c.if-s-i.true
-
-pub loop-i-preserved : goal.loop-i-preserved
-loop-i-preserved c = all_more _ c.args.s.now c.loop-i.i _ c.loop-i.invariant (omega arith) c.if-s-i.false
-
 pub returns : goal.returns
-returns c = all_end _ c.args.s.now c.loop-i.i _ c.loop-i.invariant (omega arith)
+returns c =
+    all_decided c.args.value _ _
+    (cases_from_all _ _ _ (λ x. x ≡ c.args.value) (λ x. x ≡ c.args.value → ⊥) c.all.ensures.ran
+    (YieldsList-from_skip c.args.from (YieldsList-from_slice c.args.s.now cc) cc) (λ x q k. search (rules, tests)) (λ x q k. search (rules, tests)))

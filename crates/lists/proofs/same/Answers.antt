@@ -1,19 +1,18 @@
-use mathlib.Core.Path.{refl}
-use native.Mathlib.Omega.{arith}
+use Rattle.std.proofs.Common.{rules}
 use Rattle.lists.proofs.Lists.{same_lengths, same_more, same_stop, same_end}
 use Rattle.lists.proofs.same.Goals as goal
 
 pub returns-then-a-b : goal.returns-then-a-b
 returns-then-a-b c = same_lengths _ _ c.if-a-b.true
 
-pub loop-i-init : goal.loop-i-init
-loop-i-init c = (omega arith, refl)
+pub loop-x-init : goal.loop-x-init
+loop-x-init c = search rules
 
-pub returns-then-a-i : goal.returns-then-a-i
-returns-then-a-i c = same_stop _ _ _ c.loop-i.invariant.1 (omega arith) (omega arith) c.if-a-i.true
+pub returns-then-x-y : goal.returns-then-x-y
+returns-then-x-y c = same_stop _ _ c.next.new.self.a.rest.now c.next.new.self.b.rest.now (search rules) (search rules) c.loop-x.invariant c.if-x-y.true
 
-pub loop-i-preserved : goal.loop-i-preserved
-loop-i-preserved c = (omega arith, same_more _ _ _ c.loop-i.invariant.1 (omega arith) (omega arith) c.if-a-i.false)
+pub loop-x-preserved : goal.loop-x-preserved
+loop-x-preserved c = same_more _ _ _ _ (search rules) (search rules) c.loop-x.invariant c.if-x-y.false
 
 pub returns : goal.returns
-returns c = same_end _ _ c.loop-i.i c.loop-i.invariant.1 (omega arith) (omega arith)
+returns c = same_end c.loop-x.x-iterator.a.rest.now _ c.loop-x.invariant (search rules)

@@ -1,12 +1,9 @@
 -- The loop's invariant: what is left of both decides.
-use Prim.Native.Nat.{◌-◌, ◌≤◌}
 use mathlib.Core.Path.{◌≡◌}
-use lib.ListN.{length, drop}
+use lib.ListN.{length}
 use Rattle.lists.specs.Bytes.{same_bytes}
 use Rattle.lists.proofs.same.Given as goal
 
-abbrev pub invariant-loop-i : goal.invariant-loop-i
-invariant-loop-i l = (l.i ≤ length l.a) × (same_bytes (drop l.i l.a) (drop l.i l.b) ≡ same_bytes l.a l.b)
-
-abbrev pub decreases-loop-i : goal.decreases-loop-i
-decreases-loop-i l = length l.a - l.i
+abbrev pub invariant-loop-x : goal.invariant-loop-x
+invariant-loop-x l = let a = l.x-iterator.a.rest.now in let b = l.x-iterator.b.rest.now in
+    (length a ≡ length b) × (same_bytes a b ≡ same_bytes l.a l.b)

@@ -1,11 +1,9 @@
-use mathlib.Core.Path.{refl}
-use Rattle.sender_numbers.specs.Numbers.{is_hex}
-use Rattle.sender_numbers.proofs.DigitByDigit.{short_no_hex}
+use Rattle.std.proofs.Common.{rules}
+use Rattle.sender_numbers.proofs.Library.{hex_told}
 use Rattle.sender_numbers.proofs.is_hex.Goals as goal
 
-pub returns-then-text-lt2 : goal.returns-then-text-lt2
-returns-then-text-lt2 c = short_no_hex c.args.text.now c.if-text-lt2.true
+pub returns-then-starts_with : goal.returns-then-starts_with
+returns-then-starts_with c = let h = hex_told c.args.text.now in search rules
 
-pub returns : goal.returns
-unfolding is_hex
-returns c = refl
+pub returns-else-starts_with : goal.returns-else-starts_with
+returns-else-starts_with c = let h = hex_told c.args.text.now in search rules

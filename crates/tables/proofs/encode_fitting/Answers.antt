@@ -6,17 +6,11 @@ use Rattle.tables.proofs.encode_fitting.Goals as goal
 
 pub loop-i-init : goal.loop-i-init
 unfolding digits_in
-loop-i-init c = (omega arith, refl, sym (lay-nil _ _))
-
-pub bounds-dst-i-in-loop-i : goal.bounds-dst-i-in-loop-i
-bounds-dst-i-in-loop-i c = simp length-set (omega arith)
+loop-i-init c = (refl, sym (lay-nil _ _))
 
 pub loop-i-preserved : goal.loop-i-preserved
-loop-i-preserved c = (omega arith, simp length-set c.loop-i.invariant.1, rw c.loop-i.invariant.2 (digits-next _ _ _ c.loop-i.i (omega arith) c.hex-digits.ensures))
-
-pub shape_of-dst : goal.shape_of-dst
-shape_of-dst c = c.loop-i.invariant.1
+loop-i-preserved c = (simp length-set c.loop-i.invariant.0, rw c.loop-i.invariant.1 (digits-next _ _ _ c.loop-i.i (omega arith) c.hex-digits.ensures))
 
 pub returns : goal.returns
 unfolding hex_text
-returns c = let e : c.loop-i.i ≡ length c.args.bytes.now = omega arith in rw (c.loop-i.invariant.2, e)
+returns c = let e : c.loop-i.i ≡ length c.args.bytes.now = omega arith in rw (c.loop-i.invariant.1, e)

@@ -1,7 +1,24 @@
-use Rattle.std.proofs.Common.{refl}
+use Rattle.std.proofs.Common.{arith}
+use Rattle.std.proofs.lemmas.Bool.Decides.{nat_tests}
 use Rattle.tables.specs.Hex.{is_digit}
 use Rattle.tables.proofs.is_digit.Goals as goal
 
-pub returns : goal.returns
+pub returns-in-48-to-57 : goal.returns-in-48-to-57
 unfolding is_digit
-returns c = refl
+returns-in-48-to-57 c = grind (arith, nat_tests)
+
+pub returns-in-48-to-57-2 : goal.returns-in-48-to-57-2
+unfolding is_digit
+returns-in-48-to-57-2 c = grind (arith, nat_tests)
+
+pub returns-in_default : goal.returns-in_default
+unfolding is_digit
+returns-in_default c = grind (arith, nat_tests)
+
+pub returns-in_default-2 : goal.returns-in_default-2
+unfolding is_digit
+returns-in_default-2 c = grind (arith, nat_tests)
+
+pub returns-in_default-3 : goal.returns-in_default-3
+unfolding is_digit
+returns-in_default-3 c = grind (arith, nat_tests)

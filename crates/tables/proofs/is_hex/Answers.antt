@@ -1,7 +1,12 @@
-use Rattle.std.proofs.Common.{refl}
+use Rattle.std.proofs.Common.{arith}
+use Rattle.std.proofs.lemmas.Bool.Decides.{nat_tests}
 use Rattle.tables.specs.Hex.{is_hex}
 use Rattle.tables.proofs.is_hex.Goals as goal
 
-pub returns : goal.returns
+pub returns-then-text-eq0 : goal.returns-then-text-eq0
 unfolding is_hex
-returns c = rw c.all_digits.ensures refl
+returns-then-text-eq0 c = grind (arith, nat_tests, c.all_digits.ensures)
+
+pub returns-else-text-eq0 : goal.returns-else-text-eq0
+unfolding is_hex
+returns-else-text-eq0 c = grind (arith, nat_tests)

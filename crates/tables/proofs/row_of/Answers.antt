@@ -4,4 +4,4 @@ use Rattle.tables.proofs.row_of.Goals as goal
 
 pub returns : goal.returns
 unfolding row_of
-returns c = rw (c.past-expected.ensures, c.past-input.ensures, c.past-operation.ensures, c.past.ensures) refl
+returns c = rw (c.part.ensures, c.field.ensures, c.field-2.ensures, c.field-3.ensures, c.places_of-places.ensures) refl

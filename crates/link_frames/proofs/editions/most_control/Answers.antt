@@ -6,6 +6,6 @@ pub returns-then-edition-eq-LATER_EDITION : goal.returns-then-edition-eq-LATER_E
 unfolding most_control
 returns-then-edition-eq-LATER_EDITION c = rw (eq-eqb _ _ c.if-edition-eq-LATER_EDITION.true)
 
-pub returns : goal.returns
+pub returns-else-edition-eq-LATER_EDITION : goal.returns-else-edition-eq-LATER_EDITION
 unfolding most_control
-returns c = rw (ne_eqb _ _ c.if-edition-eq-LATER_EDITION.false)
+returns-else-edition-eq-LATER_EDITION c = rw (ne_eqb _ _ c.if-edition-eq-LATER_EDITION.false)

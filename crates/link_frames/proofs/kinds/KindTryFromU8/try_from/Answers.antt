@@ -1,0 +1,27 @@
+use Rattle.lists.proofs.Laws.{tests}
+use Rattle.link_frames.specs.Kinds.{kind_of}
+use Rattle.link_frames.proofs.kinds.KindTryFromU8.try_from.Goals as goal
+
+pub returns-in-1 : goal.returns-in-1
+unfolding kind_of
+returns-in-1 c = rw c.in-1.is
+
+pub returns-in-2 : goal.returns-in-2
+unfolding kind_of
+returns-in-2 c = rw c.in-2.is
+
+pub returns-in-3 : goal.returns-in-3
+unfolding kind_of
+returns-in-3 c = rw c.in-3.is
+
+pub returns-in-4 : goal.returns-in-4
+unfolding kind_of
+returns-in-4 c = rw c.in-4.is
+
+pub returns-in-5 : goal.returns-in-5
+unfolding kind_of
+returns-in-5 c = rw c.in-5.is
+
+pub returns-in_default : goal.returns-in_default
+unfolding kind_of
+returns-in_default c = search tests

@@ -1,5 +1,0 @@
-use mathlib.Core.Path.{refl}
-use Rattle.loader_effects.proofs.ending.Goals as goal
-
-pub returns : goal.returns
-returns c = rw c.plain.ensures refl
