@@ -31,7 +31,8 @@ pub enum Phase {
 // The link's record. A caller makes it with `new`, hands it to each call and keeps the one that comes back; it sets no field itself.
 #[derive(Clone, Copy)]
 pub struct Link {
-    // What the link was opened for: 1, the first edition of the protocol, or 2, the later one. No call changes it.
+    // What the link was opened for: 1, the first edition of the protocol, or 2, the later one. No call changes it. A number, since refusal 5
+    // judges records that hold any (`link_claims::EditionJudged`).
     pub edition: u8,
     // The module has asked for the 5 V, which the caller then gives: on only in Open, under the later edition. A loss or a detected error
     // switches them off.
@@ -50,6 +51,7 @@ pub struct Link {
     // A data frame of ours waits for its status: until then a send is refused with 13. A loss or a detected error drops it.
     pub outstanding: bool,
     // How many bytes of the frame being received are held: its type byte, `kind`, and then its contents in `frame`. All behind them is zero.
+    // `kind` is a byte, since refusal 5 judges records that hold any; the scope names an array for the contents.
     pub held: usize,
     pub kind: u8,
     pub frame: Holder,

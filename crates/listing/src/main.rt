@@ -39,7 +39,7 @@ impl From<AllocError> for Failure {
     }
 }
 
-// A listing, and the memory that it lends to the loader.
+// A listing, and the memory that it lends to the loader. The programs with vectors have such a struct each, which keeps other things of a call.
 #[derive(Drop)]
 struct Lister {
     listing: Listing,

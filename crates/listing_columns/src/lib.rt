@@ -28,7 +28,7 @@ pub fn heading() -> HeadingBytes
     *b"no\tcommand\tstatus\terror\n"
 }
 
-// What follows the number of a packet that was read.
+// What follows the number of a packet that was read. Command and error are bytes, since any is shown.
 pub fn read_fields(command: u8, error: u8) -> RowFields
     ensures { result ≡ fields_of (hex2 command) (hex2 (status_of error)) (hex2 error) }
 {

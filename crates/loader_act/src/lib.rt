@@ -24,7 +24,8 @@ pub enum Answer {
         stored: usize,
         reason: Reason,
     },
-    // a packet of `stored` bytes is closed, read and answered: send the first `sent` bytes of the answer buffer, and then do what the note says
+    // a packet of `stored` bytes is closed, read and answered: send the first `sent` bytes of the answer buffer, and then do what the note says.
+    // Command and error are the bytes of the answer: `listing_lines::line` takes any
     Answered {
         stored: usize,
         command: u8,

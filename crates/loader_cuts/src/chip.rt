@@ -8,7 +8,8 @@ const FLASH_LENGTH: usize = 65536;
 
 const WORDS: usize = 4096;
 
-// What the calls told that did not only take bytes, as numbers, and what they sent, stands beside the loader.
+// What the calls told that did not only take bytes, as numbers, and what they sent, stands beside the loader: no other program keeps these, so
+// the struct is this one's.
 #[derive(Drop)]
 pub struct Chip {
     loader: Loader,

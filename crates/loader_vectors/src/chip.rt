@@ -83,7 +83,7 @@ fn unframe(bytes: &[u8], got: &mut [u8]) -> usize {
     }
 }
 
-// The flash that the last loader left.
+// The flash that the last loader left, which is all that stays of one here.
 #[derive(Drop)]
 pub struct Chip {
     flash: Vec<u8>,
