@@ -58,7 +58,8 @@ fn size_of(kind: u8, first: u8) -> usize
 }
 
 // Whether so many bytes begin a good frame that is longer than they are.
-// The type is a byte here: refusal 5 judges records that hold any (`link_claims::EditionJudged`).
+// The type is a byte here: refusal 5 judges records that hold any (`link_claims::EditionJudged`). The four are fields of the link's record,
+// which stands above this crate.
 pub fn is_begun(edition: u8, count: usize, kind: u8, first: u8) -> bool
     ensures { result ≡ begins edition count kind first }
 {
@@ -121,7 +122,7 @@ pub fn write_status(code: u8, buffer: &mut [u8]) -> usize
     write(&frame, buffer)
 }
 
-// A data frame; data of more than 64 bytes has none.
+// A data frame; data of more than 64 bytes has none. Then, and where it does not fit, `Writes` has 0, no error.
 pub fn write_data(bytes: &[u8], buffer: &mut [u8]) -> usize
     ensures { Writes (fitting buffer.old (data_framed bytes.now)) buffer.old result buffer.new }
 {

@@ -3,7 +3,7 @@
 // buffer of at least 67 bytes, and send the first `sent` of them; on `lost` and on `DetectedError` the line goes back to 9600, the 5 V
 // are switched off if they are on, and outstanding data is gone; on `Powered` they are switched, behind the reply. A record is lent to one call
 // at a time, so a handler must not interrupt another call on it.
-// Each function is thin: it calls the step of its name by value and stores the record that comes back. A helper for that would save no line.
+// Each function is thin: it calls the step of its name by value and stores the record that comes back. A function for that would save no line.
 #![tactic(auto)]
 
 ghost use Rattle.std.specs.Prelude.{◌≡◌};

@@ -37,6 +37,7 @@ pub struct Link {
     // The module has asked for the 5 V, which the caller then gives: on only in Open, under the later edition. A loss or a detected error
     // switches them off.
     pub power: bool,
+    // The flags and the rate stand beside it and not in its cases: refusal 5 judges records in which they do not go with it.
     pub phase: Phase,
     // What the line is to be at: 9600 but in Open. The reply to the baud frame that changes it is still sent at 9600.
     pub rate: u32,

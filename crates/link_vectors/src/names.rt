@@ -79,6 +79,7 @@ impl Named for Operation {
     ghost names = { Names_by name_of };
 
     // Not a `match`, of whose byte strings a proof learns the lengths alone.
+    // `loader_vectors` has one over its own array, with a proof over its own list.
     fn named(name: &[u8]) -> Option<Operation> {
         ALL.iter()
             .find(|operation| lists::same(operation.name(), name))

@@ -26,11 +26,6 @@ pub struct Probe {
     lost: bool,
 }
 
-// A byte of a row, 0 past its end.
-fn byte_at(bytes: &[u8], at: usize) -> u8 {
-    bytes.get(at).copied().unwrap_or(0)
-}
-
 // A fresh link of an edition.
 fn fresh(edition: u8) -> Link {
     link::new(edition).link
@@ -39,8 +34,8 @@ fn fresh(edition: u8) -> Link {
 // A poll of the link as it stands, but for its edition and its power, which are two of the bytes.
 fn poll_record(link: Link, bytes: &[u8], tick: u32, answer: &mut [u8]) -> Next {
     let mut record = link;
-    record.edition = byte_at(bytes, 0);
-    record.power = byte_at(bytes, 1) == 1;
+    record.edition = bytes.first().copied().unwrap_or(0);
+    record.power = matches!(bytes.get(1), Some(1));
     link::poll(record, tick, answer)
 }
 
@@ -54,7 +49,7 @@ fn put_event(event: Event, got: &mut [u8]) -> usize {
         Event::Failed(status) => put(&[0x04, status], got),
         Event::DetectedError => put(&[0x05], got),
         Event::Refused(refusal) => put(&[0x06, refusal.into()], got),
-        Event::Powered(on) => put(&[0x07, on as u8], got),
+        Event::Powered(on) => put(&[0x07, u8::from(on)], got),
     }
 }
 
@@ -146,8 +141,8 @@ impl Probe {
             Reading::Sent => put(part(&self.answer, 0, self.sent), got),
             Reading::Handed => put(part(&self.bytes, 0, self.handed()), got),
             Reading::Heard => put_word((self.heard % 256) as u32, got),
-            Reading::Lost => put(&[self.lost as u8], got),
-            Reading::Power => put(&[self.link.power as u8], got),
+            Reading::Lost => put(&[u8::from(self.lost)], got),
+            Reading::Power => put(&[u8::from(self.link.power)], got),
         }
     }
 }
@@ -160,7 +155,7 @@ impl Runner for Probe {
         let tick = fields::word_at(input, 0);
         let bytes = part(input, 4, input.len());
         match operation {
-            Operation::Open => self.open(byte_at(input, 0)),
+            Operation::Open => self.open(input.first().copied().unwrap_or(0)),
             Operation::Hear => self.hear(bytes, tick),
             Operation::Call(call) => self.call(call, bytes, tick),
             Operation::Read(reading) => return self.read(reading, got),

@@ -44,6 +44,7 @@ fn send(command: u8, value: u32, body: &[u8], status: &StatusBytes, answer: &mut
 
 // Writes an answer, with a digest before its status bytes where there is one; how many bytes from the front of the buffer are to be sent.
 // Where the buffer is too short for it, none; LONGEST_ANSWER bytes hold every answer. The error is a byte: any is sent.
+// The parameters are the parts of an answer, as at `send`.
 pub fn reply(
     command: u8,
     error: u8,

@@ -49,7 +49,7 @@ impl Chip {
     fn keep(&mut self, answer: Answer) -> Result<(), AllocError> {
         match answer {
             Answer::Taken => {},
-            Answer::Refused(number) => self.told.extend_from_slice(&[1, number as u32])?,
+            Answer::Refused(number) => self.told.extend_from_slice(&[1, u32::from(number)])?,
             Answer::Dropped { stored, reason } => {
                 self.told
                     .extend_from_slice(&[2, (stored % 65536) as u32, reason as u32])?;
@@ -65,8 +65,8 @@ impl Chip {
                 self.told.extend_from_slice(&[
                     3,
                     (stored % 65536) as u32,
-                    command as u32,
-                    error as u32,
+                    u32::from(command),
+                    u32::from(error),
                     (sent % 65536) as u32,
                     what,
                     address,
@@ -121,16 +121,16 @@ impl Chip {
         Ok(())
     }
 
-    // The record, as numbers, as what is told is too: no other code compares records, so derives of `==` in eight of the chip's libraries
-    // would serve this program alone.
+    // The record, as numbers, as what is told is too: no other code compares records, so derives of `==` for eight types of
+    // six of the chip's libraries would serve this program alone.
     fn record(&self) -> [u32; 10] {
         let loader = self.loader;
         let begin = loader_sessions::announced_by(loader.session);
         [
             loader.line.phase as u32,
             (loader.line.held % 65536) as u32,
-            loader_sessions::flash_open(loader.session) as u32,
-            loader_sessions::memory_open(loader.session) as u32,
+            u32::from(loader_sessions::flash_open(loader.session)),
+            u32::from(loader_sessions::memory_open(loader.session)),
             begin.size,
             begin.count,
             begin.block,

@@ -16,7 +16,7 @@ pub const FLASH_LENGTH: usize = 65536;
 
 pub const WORDS: usize = 4096;
 
-// The error of a call that does not answer: no command has it.
+// The error of a call that does not answer: no command has it. A byte, as the rows of the table expect it.
 const SILENT: u8 = 0xEE;
 
 // Of some calls: how many packets they closed, the bits of all their errors, and all that the last one told.
@@ -147,7 +147,7 @@ impl Chip {
         addresses.len() / 4
     }
 
-    // 0xFF where the flash is erased from one address up to another.
+    // 0xFF where the flash is erased from one address up to another, else 0, as the rows of the table expect it.
     fn erased(&self, from: u32, upto: u32) -> u8 {
         let stretch = part(self.flash.as_slice(), from as usize, upto as usize);
         if !stretch.is_empty() && stretch.iter().all(|byte| *byte == 0xFF) {

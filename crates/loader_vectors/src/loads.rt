@@ -3,7 +3,7 @@ use fields::word_at;
 use sender::{LONGEST_FRAME, LoadError, PacketError, Place};
 use tables::{part, put};
 
-// No image of the table has more bytes.
+// No image of the table has more bytes. Image and line are arrays: `Runner::run` has no error for memory that runs out.
 pub const IMAGE: usize = 16384;
 
 // No load of the table has more bytes, framed. What does not fit is left out, and the loader closes fewer packets than there are.

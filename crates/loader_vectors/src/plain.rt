@@ -23,7 +23,7 @@ pub fn pack(bytes: &[u8], got: &mut [u8]) -> usize {
     }
 }
 
-// The number that a call is refused with whose record holds an attach word.
+// The number that a call is refused with whose record holds an attach word, 0 where it is not, as the rows of the table expect it.
 pub fn record(attach: u32) -> u8 {
     let loader = Loader {
         line: slip_unframing::new(),

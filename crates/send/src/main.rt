@@ -76,8 +76,8 @@ fn words(text: &str) -> &str {
     }
 }
 
-// Writes a line to standard error: what failed, and why. `listing` has this function and `is_given` too: of one in a library no contract
-// could say anything.
+// Writes a line to standard error: what failed, and why. `listing` has `words`, this function and `is_given` too: a library's `fail` and
+// `is_given` could promise nothing of what is printed or given, and `words` is four lines for these two.
 fn fail(rt: &impl Eprint, what: &str, error: &io::Error) {
     let text = InlineText::<REASON_SPACE>::of(error);
     let _ = eprintln!(rt; "{what}: {}", words(text.as_str()));

@@ -4,7 +4,8 @@
 ghost use Rattle.std.specs.Prelude.{◌≡◌, ◌≤◌};
 ghost use Rattle.sender_numbers.specs.Numbers.{is_hex, digits_of, said, number_of};
 
-// The number that a text of digits in a base says, or the largest of 64 bits where it is larger. An empty text says none.
+// The number that a text of digits in a base says, or the largest of 64 bits where it is larger. An empty text says none. Not by
+// `from_str_radix`, which takes a plus sign and fails where the number is larger.
 fn digits(text: &[u8], base: u32) -> Option<usize>
     requires { (2 ≤ base) × (base ≤ 16) }
     ensures { said result ≡ digits_of base text.now }
