@@ -24,17 +24,17 @@ shortest_buffer = 67
 
 -- the refusals of pull, byte and poll
 unfoldable pub checks : Link → ℕ → List Check
-checks l buffer = sound l or_else refusal_number Record ∷ nat_le shortest_buffer buffer or_else refusal_number AnswerBuffer ∷ []
+checks l buffer = sound l or_else 5 ∷ nat_le shortest_buffer buffer or_else 8 ∷ []
 
 -- "Sending data: refusals in order: 10 not Open, 12 dead time, 11 RPC closed, 13 an earlier frame unconfirmed, 14 over 64 bytes, 8":
 -- 5 judges the record as it came, the others the record l' after the silence and dead time checks
 unfoldable pub send_checks : Link → Link → ℕ → ℕ → List Check
 send_checks l l' count buffer =
-    sound l or_else refusal_number Record
-    ∷ by_phase l'.phase false false true or_else refusal_number NotOpen
-    ∷ not l'.dead or_else refusal_number DeadTime
-    ∷ l'.rpc or_else refusal_number RpcClosed
-    ∷ not l'.outstanding or_else refusal_number Unconfirmed
-    ∷ nat_le count most_data or_else refusal_number TooLong
-    ∷ nat_le shortest_buffer buffer or_else refusal_number AnswerBuffer
+    sound l or_else 5
+    ∷ by_phase l'.phase false false true or_else 10
+    ∷ not l'.dead or_else 12
+    ∷ l'.rpc or_else 11
+    ∷ not l'.outstanding or_else 13
+    ∷ nat_le count most_data or_else 14
+    ∷ nat_le shortest_buffer buffer or_else 8
     ∷ []
