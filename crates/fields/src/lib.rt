@@ -81,11 +81,18 @@ pub fn header(direction: u8, command: u8, size: u32, word: u32) -> HeaderBytes
 
 // Checksums
 
+// The bytes from a place on, none where that is past the end. By the place alone: the kit's `skip` goes over the bytes before it one by one.
+fn behind(s: &[u8], from: usize) -> &[u8]
+    ensures { result.now ≡ drop from s.now }
+{
+    &s[from.min(s.len())..]
+}
+
 // A seed XORed with each byte from a place on.
 pub fn xor_from(seed: u8, s: &[u8], from: usize) -> u8
     ensures { result ≡ xored seed (drop from s.now) }
 {
-    s.iter().skip(from).fold(seed, |x, byte| x ^ *byte)
+    behind(s, from).iter().fold(seed, |x, byte| x ^ *byte)
 }
 
 // What a checksum of data starts from.
