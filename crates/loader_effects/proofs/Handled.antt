@@ -5,14 +5,19 @@ use mathlib.Core.Bool.{Bool, true, false, cond}
 use Prim.Native.Nat.{ℕ}
 use borrow.Author.Tests.{eqb-true, eqb-false, eq-eqb, ne_eqb}
 use lib.Dec.{eqb}
+use Rattle.std.specs.Prelude.{Result, Ok, Err, ⊤}
+use Rattle.lists.specs.Checks.{number_by}
 use Rattle.lists.proofs.Tests.{Passed, passed_first, first_passed}
 use Rattle.slip_packets.specs.Packets.{read}
 use Rattle.loader_answers.specs.Answer.{plain}
 use Rattle.esp_commands.specs.Header.{command}
 use Rattle.loader_sessions.specs.Session.{session_good, if_sound}
+use Rattle.loader_errors.specs.Codes.{error_byte}
 use Rattle.loader_errors.specs.Errors.{kind, checks, error_of}
+use Rattle.loader_errors.specs.declared.CommandError.{CommandError}
 use Rattle.loader_sessions.specs.declared.Session.{Session}
 use Rattle.loader_errors.proofs.Checks.{all-numbered}
+use Rattle.loader_errors.proofs.Numbers.{error-nonzero}
 use Rattle.loader_effects.specs.Core.{Core, lengths, with_session}
 use Rattle.loader_effects.specs.Handle.{Handled, carried_out, failed, handle, obeyed, Does}
 use Rattle.loader_notes.specs.declared.Note.TheVariants.{Nothing}
@@ -37,6 +42,11 @@ module _ (c : Core) (p : List ℕ) where
           → P (cond x (carried_out c p) (failed c p (error_of (lengths c) c.session p)))
       go true e = good (first_passed _ (all-numbered (lengths c) c.session (kind (command p)) p) (eqb-true _ 0 e))
       go false e = bad _ (eqb-false _ 0 e)
+
+-- what does not pass its checks has an error
+pub failed-nonzero : (r : Result ⊤ CommandError) → ((u : ⊤) → r ≡ Ok u → ⊥) → number_by error_byte r ≡ 0 → ⊥
+failed-nonzero (Ok u) n h = n u refl
+failed-nonzero (Err e) n h = error-nonzero e h
 
 -- a read packet's command, in what the code has: the session as it finds it, and its error
 module _

@@ -2,12 +2,14 @@
 #![tactic(auto)]
 
 ghost use Rattle.std.specs.Prelude.{◌≡◌, true, ◌+◌, ◌^◌, ◌<◌, length, take, drop};
+ghost use Rattle.lists.specs.Checks.{number_by};
 ghost use Rattle.fields.specs.Places.{first_word, second_word};
 ghost use Rattle.fields.specs.Words.{word};
 ghost use Rattle.digest.specs.Digest.{md5_of};
 ghost use Rattle.loader_answers.specs.Answer.{plain};
 ghost use Rattle.esp_commands.specs.Header.{command};
 ghost use Rattle.loader_sessions.specs.Session.{accepted, advanced, session_good};
+ghost use Rattle.loader_errors.specs.Codes.{error_byte};
 ghost use Rattle.loader_errors.specs.Errors.{error_of};
 ghost use Rattle.loader_effects.specs.Handle.{carried_out, obeyed, Does};
 
@@ -15,6 +17,7 @@ use digest::DigestBytes;
 use esp_begin::Lengths;
 use esp_commands::Command;
 use fields::{FIRST_WORD, SECOND_WORD};
+use loader_errors::CommandError;
 use loader_notes::Note;
 use loader_sessions::Session;
 
@@ -32,11 +35,14 @@ pub struct Done {
 }
 
 // A result with no value, no digest and nothing told.
-fn leaving(error: u8, session: Session, attach: u32) -> Done
-    ensures { result ≡ record { error = error; session = session; attach = attach; value = 0; body = plain; note = Note.Nothing } }
+fn leaving(judged: Result<(), CommandError>, session: Session, attach: u32) -> Done
+    ensures { result ≡ record { error = number_by error_byte judged; session = session; attach = attach; value = 0; body = plain; note = Note.Nothing } }
 {
     Done {
-        error,
+        error: match judged {
+            Ok(()) => 0,
+            Err(error) => u8::from(error),
+        },
         session,
         attach,
         value: 0,
@@ -82,7 +88,7 @@ fn carry_out(
         packet.now)
         (command packet.now) result flash.new words.new }
 {
-    let before = leaving(0, session, attach);
+    let before = leaving(Ok(()), session, attach);
     let Ok(command) = Command::try_from(esp_commands::command_of(packet)) else {
         // No other command has the error 0.
         return before;
@@ -169,8 +175,8 @@ pub fn obey(
         words: words.len(),
     };
     let open = loader_sessions::if_sound(lengths, session);
-    if let Err(error) = loader_errors::error_of(lengths, open, packet) {
-        return leaving(u8::from(error), session, attach);
+    match loader_errors::error_of(lengths, open, packet) {
+        Ok(()) => carry_out(packet, open, attach, flash, words),
+        failed => leaving(failed, session, attach),
     }
-    carry_out(packet, open, attach, flash, words)
 }

@@ -1,16 +1,15 @@
-use mathlib.Core.Path.{refl, sym, ◌∙◌}
+use mathlib.Core.Path.{refl, sym}
+use Rattle.std.proofs.Common.{rules}
 use Rattle.loader_sessions.proofs.Sound.{if_sound-good}
-use Rattle.loader_errors.proofs.Numbers.{error-nonzero}
-use Rattle.loader_effects.proofs.Handled.{obeyed-failed, obeyed-done}
+use Rattle.loader_effects.proofs.Handled.{failed-nonzero, obeyed-failed, obeyed-done}
 use Rattle.loader_effects.proofs.obey.Goals as goal
 
-pub returns-in-Err : goal.returns-in-Err
-returns-in-Err c =
-    obeyed-failed _ c.args.packet.now _ _ c.if_sound-open.ensures (c.from.ensures ∙ c.in-Err.ensures)
-    (λ z. error-nonzero c.in-Err.error (sym c.from.ensures ∙ z)) _ c.leaving.ensures
-
 pub carry_out-requires : goal.carry_out-requires
-carry_out-requires c = (sym c.in_default.ensures, rw c.if_sound-open.ensures (if_sound-good _ _))
+carry_out-requires c = (sym c.in-Ok.ensures, rw c.if_sound-open.ensures (if_sound-good _ _))
 
-pub returns : goal.returns
-returns c = obeyed-done _ c.args.packet.now _ _ c.if_sound-open.ensures c.in_default.ensures refl _ _ _ c.carry_out.ensures
+pub returns-in-Ok : goal.returns-in-Ok
+returns-in-Ok c = obeyed-done _ c.args.packet.now _ _ c.if_sound-open.ensures c.in-Ok.ensures refl _ _ _ c.carry_out.ensures
+
+pub returns-in_default : goal.returns-in_default
+returns-in_default c =
+    obeyed-failed _ c.args.packet.now _ _ c.if_sound-open.ensures c.error_of.ensures (failed-nonzero c.error_of.result (search rules)) _ c.leaving.ensures
