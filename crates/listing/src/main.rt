@@ -2,8 +2,11 @@
 // from the file that the argument names, or from standard input where there is none, into a fresh loader.
 #![tactic(auto)]
 
+ghost use Rattle.std.specs.Prelude.{◌≡◌, length, replicate};
+ghost use Rattle.loader_answers.specs.Reply.{longest_answer};
+ghost use Rattle.listing_report.specs.Listing.{fresh_listing};
+
 use listing_report::{ListError, Listing};
-use std::alloc::{AllocError, Global};
 use std::env::FillError;
 use std::fmt::InlineText;
 use std::fs::File;
@@ -17,11 +20,23 @@ const INPUT: usize = 65536;
 // The space for an argument: that of the longest path.
 const ARGUMENT_SPACE: usize = 4096;
 
-// The space for the text of an error, which is told even where no memory is left.
+// The space for the text of an error.
 const REASON_SPACE: usize = 256;
 
 // The lines of one write: some 40 of them. Captures fill it often, so that a full text is no rare case.
 const TEXT: usize = 512;
+
+// The bytes of the packet buffer that the loader is lent: the fewest that it takes.
+const PACKET: usize = slip_framing::LONGEST;
+
+// The bytes of the answer buffer: the fewest that it takes.
+const ANSWER: usize = loader::LONGEST_ANSWER;
+
+// The bytes of flash.
+const FLASH: usize = 65536;
+
+// The words of memory.
+const WORDS: usize = 4096;
 
 // Why a listing ends before its input does.
 #[derive(Drop)]
@@ -30,34 +45,37 @@ enum Failure {
     Output(io::Error),
     // no call of this program is refused, as its buffers are long enough
     Refused,
-    OutOfMemory,
-}
-
-impl From<AllocError> for Failure {
-    fn from(_error: AllocError) -> Failure {
-        Failure::OutOfMemory
-    }
 }
 
 // A listing, and the memory that it lends to the loader. The programs with vectors have such a struct each, which keeps other things of a call.
 #[derive(Drop)]
 struct Lister {
     listing: Listing,
-    packet: Vec<u8>,
-    answer: Vec<u8>,
-    flash: Vec<u8>,
-    words: Vec<u32>,
+    packet: [u8; PACKET],
+    answer: [u8; ANSWER],
+    flash: [u8; FLASH],
+    words: [u32; WORDS],
 }
 
 impl Lister {
-    fn new(alloc: Global) -> Result<Lister, AllocError> {
-        Ok(Lister {
+    // "a fresh loader with 64 KiB of 0xFF flash and 4,096 zero words". The clauses have the lengths as numbers, so that no constant changes
+    // them unseen; the arrays keep them while the listing goes on.
+    fn new() -> Lister
+        ensures fresh { result.listing ≡ fresh_listing }
+        ensures packet { length result.packet ≡ 4120 }
+        ensures answer { length result.answer ≡ longest_answer }
+        ensures flash { length result.flash ≡ 65536 }
+        ensures words { length result.words ≡ 4096 }
+        ensures erased { result.flash ≡ replicate (length result.flash) 0xFF }
+        ensures zeros { result.words ≡ replicate (length result.words) 0 }
+    {
+        Lister {
             listing: listing_report::new(),
-            packet: vec![in alloc; 0; slip_framing::LONGEST]?,
-            answer: vec![in alloc; 0; loader::LONGEST_ANSWER]?,
-            flash: vec![in alloc; 0xFF; 65536]?,
-            words: vec![in alloc; 0; 4096]?,
-        })
+            packet: [0; PACKET],
+            answer: [0; ANSWER],
+            flash: [0xFF; FLASH],
+            words: [0; WORDS],
+        }
     }
 
     // Feeds what was read, and writes the lines of the packets that it closes: at the end, and before that where the text's buffer
@@ -71,10 +89,10 @@ impl Lister {
             match listing_report::feed_run(
                 self.listing,
                 rest,
-                self.packet.as_mut_slice(),
-                self.answer.as_mut_slice(),
-                self.flash.as_mut_slice(),
-                self.words.as_mut_slice(),
+                &mut self.packet,
+                &mut self.answer,
+                &mut self.flash,
+                &mut self.words,
                 &mut text,
                 filled,
             ) {
@@ -100,8 +118,8 @@ fn write_out(rt: &impl Print, text: &[u8]) -> Result<(), Failure> {
 
 // Lists an open input. A proved loop has to end, and nothing says that an input does. So the loop counts its reads, up to a number that
 // no run reaches.
-fn list(rt: &(impl Print + AllocGlobal), input: &mut impl Read) -> Result<(), Failure> {
-    let mut lister = Lister::new(rt.alloc())?;
+fn list(rt: &impl Print, input: &mut impl Read) -> Result<(), Failure> {
+    let mut lister = Lister::new();
     write_out(rt, &listing_report::heading())?;
     let mut run = [0u8; INPUT];
     for _ in 0..u64::MAX {
@@ -130,7 +148,7 @@ fn fail(rt: &impl Eprint, what: &str, error: &io::Error) {
 }
 
 // Lists an open input, and says why where that ends early, so that an input that cannot be read does not pass for one that ended.
-fn list_open(rt: &(impl Print + Eprint + AllocGlobal), input: &mut impl Read, name: &str) {
+fn list_open(rt: &(impl Print + Eprint), input: &mut impl Read, name: &str) {
     let Err(failure) = list(rt, input) else {
         return;
     };
@@ -139,9 +157,6 @@ fn list_open(rt: &(impl Print + Eprint + AllocGlobal), input: &mut impl Read, na
         Failure::Output(error) => fail(rt, "standard output", &error),
         Failure::Refused => {
             let _ = rt.eprintln("listing: the loader refused the call");
-        }
-        Failure::OutOfMemory => {
-            let _ = rt.eprintln("listing: out of memory");
         }
     }
 }
@@ -152,7 +167,7 @@ fn say_usage(rt: &impl Eprint) {
 
 // Lists the file that the argument names. One that begins with a dash is taken for an option, and there are none. std opens a file by a
 // name that is UTF-8, and by no other.
-fn list_file(rt: &(impl Env + Files + Print + Eprint + AllocGlobal)) {
+fn list_file(rt: &(impl Env + Files + Print + Eprint)) {
     let mut space = [0u8; ARGUMENT_SPACE];
     let Ok(n) = rt.arg(1, &mut space) else {
         let _ = rt.eprintln("listing: File name too long");
