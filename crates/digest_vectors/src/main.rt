@@ -4,6 +4,9 @@
 
 use std::io;
 
+// The digits of a digest, two for each of its sixteen bytes.
+const DIGITS: usize = 32;
+
 // The suite's messages, each with its digest as the RFC prints it.
 const SUITE: [(&str, &str); 7] = [
     ("", "d41d8cd98f00b204e9800998ecf8427e"),
@@ -28,11 +31,13 @@ fn main(rt: HostRuntime) -> io::Result<()> {
     let mut good: usize = 0;
     for (message, expected) in SUITE {
         let digest = digest::md5(message.as_bytes(), 0, message.len());
-        let text = hex::encode(rt.alloc(), digest)?;
-        let is_good = text.as_str() == expected;
+        let mut text = [0u8; DIGITS];
+        hex::encode_to_slice(digest, &mut text).unwrap();
+        let is_good = text.as_slice() == expected.as_bytes();
         good += usize::from(is_good);
         // the run goes on where its output fails, and its last line then ends it with the error
-        let _ = println!(rt; "{text}\t{}", if is_good { "good" } else { "bad" });
+        let _ = rt.write_all(&text);
+        let _ = println!(rt; "\t{}", if is_good { "good" } else { "bad" });
     }
     println!(rt; "{good} of {} good", SUITE.len())
 }
