@@ -14,7 +14,7 @@ use std::{fmt, io};
 // The space for an argument: that of the longest path.
 const ARGUMENT_SPACE: usize = 4096;
 
-// The space for the text of an error, which is told even where no memory is left.
+// The space for the text of an error.
 const REASON_SPACE: usize = 256;
 
 // One byte more than the longest flash, so that an image that fits leaves space: a file that fills the buffer is refused.
@@ -95,20 +95,36 @@ fn send_load(rt: &impl Print, buffer: &[u8], read: usize, place: Place) -> Resul
     Ok(())
 }
 
-// An image read into a buffer, or as much of it as there is space for, and how many bytes were read: `sender::file_packet_count` judges a file
-// by the buffer's length beside that.
-fn read_image<R: Files + Alloc>(rt: &R, name: &str) -> io::Result<(Vec<u8, R::A>, usize)> {
-    let mut buffer = Vec::new(rt.alloc());
-    let read = File::open(rt, name)?
-        .take(IMAGE_SPACE as u64)
-        .read_to_end(&mut buffer)?;
-    buffer.resize(IMAGE_SPACE, 0)?;
-    Ok((buffer, read))
+// Reads an image into a buffer, or as much of it as there is space for: how many bytes were read. `sender::file_packet_count` judges a file by
+// the buffer's length beside that. A read may bring less than it was asked for.
+fn read_image(rt: &impl Files, name: &str, buffer: &mut [u8]) -> io::Result<usize> {
+    let mut file = File::open(rt, name)?;
+    let space = buffer.len();
+    let mut rest = buffer;
+    while !rest.is_empty() {
+        let n = file.read(rest)?;
+        if n == 0 {
+            break;
+        }
+        rest = &mut rest[n..];
+    }
+    Ok(space - rest.len())
 }
 
-fn send_file(rt: &(impl Files + Print + Alloc), name: &str, place: Place) -> Result<(), Failure> {
-    let (buffer, read) = read_image(rt, name).map_err(Failure::Image)?;
-    send_load(rt, &buffer, read, place)
+// Reads an image and sends it. In a function of its own, which knows the array's length by its type, no proof counts its bytes.
+fn send_image(
+    rt: &(impl Files + Print),
+    name: &str,
+    buffer: &mut [u8; IMAGE_SPACE],
+    place: Place,
+) -> Result<(), Failure> {
+    let read = read_image(rt, name, buffer).map_err(Failure::Image)?;
+    send_load(rt, buffer, read, place)
+}
+
+fn send_file(rt: &(impl Files + Print), name: &str, place: Place) -> Result<(), Failure> {
+    let mut buffer = [0u8; IMAGE_SPACE];
+    send_image(rt, name, &mut buffer, place)
 }
 
 // The number that an argument says. One that is missing, or longer than the space for it, says none. (Not by `env::args`, which fails for
@@ -132,7 +148,7 @@ fn place_given(rt: &impl Env) -> Option<Place> {
 }
 
 // Takes the arguments, of which there are four. std opens a file by a name that is UTF-8, and by no other.
-fn send_named(rt: &(impl Env + Files + Print + Eprint + Alloc)) {
+fn send_named(rt: &(impl Env + Files + Print + Eprint)) {
     let Some(place) = place_given(rt) else {
         say_usage(rt);
         return;
