@@ -6,7 +6,6 @@ use fields::{FIRST_WORD, word_at};
 use loader::Answer;
 use slip_framing::{LONGEST, LONGEST_FRAME};
 use slip_unframing::Closing;
-use std::alloc::{AllocError, Global};
 use tables::{Runner, part, put, put_word};
 
 // The most bytes of a field: the longest frame.
@@ -83,16 +82,18 @@ fn unframe(bytes: &[u8], got: &mut [u8]) -> usize {
     }
 }
 
-// The flash that the last loader left, which is all that stays of one here.
+// The flash that the last loader left, which is all that stays of one here. An array, as each buffer of this program: it fails nowhere for
+// want of memory.
 #[derive(Drop)]
 pub struct Chip {
-    flash: Vec<u8>,
+    flash: [u8; FLASH_LENGTH],
 }
 
 impl Chip {
-    pub fn new(alloc: Global) -> Result<Chip, AllocError> {
-        let flash = vec![in alloc; 0; FLASH_LENGTH]?;
-        Ok(Chip { flash })
+    pub fn new() -> Chip {
+        Chip {
+            flash: [0; FLASH_LENGTH],
+        }
     }
 
     // Feeds a fresh loader, over flash and words of zeros. All bytes are handed over, and what a call leaves of them again until nothing
@@ -117,7 +118,7 @@ impl Chip {
                 rest,
                 &mut packet,
                 answer,
-                self.flash.as_mut_slice(),
+                &mut self.flash,
                 &mut words,
             );
             loader = fed.loader;
@@ -149,7 +150,7 @@ impl Chip {
 
     // 0xFF where the flash is erased from one address up to another, else 0, as the rows of the table expect it.
     fn erased(&self, from: u32, upto: u32) -> u8 {
-        let stretch = part(self.flash.as_slice(), from as usize, upto as usize);
+        let stretch = part(&self.flash, from as usize, upto as usize);
         if !stretch.is_empty() && stretch.iter().all(|byte| *byte == 0xFF) {
             0xFF
         } else {

@@ -14,11 +14,10 @@ use std::io;
 const TABLE: usize = 262144;
 
 fn main(rt: HostRuntime) -> io::Result<()> {
-    let mut text = vec![in rt.alloc(); 0; TABLE]?;
-    let mut chip = Chip::new(rt.alloc())?;
-    let table = tables::read(&mut rt.stdin(), &rt, text.as_mut_slice())?;
+    let mut text = [0u8; TABLE];
+    let table = tables::read(&mut rt.stdin(), &rt, &mut text)?;
     tables::run(
-        &mut chip,
+        &mut Chip::new(),
         &rt,
         table,
         &mut [0; LONGEST_FIELD],
