@@ -5,7 +5,7 @@
 mod chip;
 mod cuts;
 
-use cuts::Workshop;
+use cuts::Cuts;
 use slip_framing::LONGEST_FRAME;
 use std::io;
 
@@ -18,13 +18,12 @@ const MOST: usize = 4;
 fn main(rt: HostRuntime) -> io::Result<()> {
     let mut text = [0u8; TABLE];
     let table = tables::read(&mut rt.stdin(), &rt, &mut text)?;
-    let mut workshop = Workshop::new(rt.alloc());
     tables::run(
-        &mut workshop,
+        &mut Cuts,
         &rt,
         table,
         &mut [0; LONGEST_FRAME],
         &mut [0; MOST],
     );
-    Ok(workshop.finish()?)
+    Ok(())
 }
