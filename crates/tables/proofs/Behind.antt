@@ -21,7 +21,7 @@ unfolding past_of up_to
 past_end s b i h = rw (drop_of_length-le s h, add-zero)
 
 -- at least one element, and at most all
-up_some : (b : ℕ) (xs : List ℕ) → 0 < length xs → 0 < up_to b xs
+pub up_some : (b : ℕ) (xs : List ℕ) → 0 < length xs → 0 < up_to b xs
 unfolding up_to
 up_some b [] h = absurd (omega arith)
 up_some b (x ∷ xs) h = go (eqb x b)

@@ -2,3 +2,4 @@ pub mod Behind
 pub mod Digits
 pub mod Lines
 pub mod Names
+pub mod Numbers

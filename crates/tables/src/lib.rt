@@ -7,6 +7,7 @@ ghost use Rattle.lists.specs.Lay.{lay, lay_if_fits};
 ghost use Rattle.lists.specs.Bytes.{same_bytes};
 ghost use Rattle.tables.specs.Fields.{part_of, past_of, places_of, fields, row_of};
 ghost use Rattle.tables.specs.Rows.{is_comment, is_row, IsLine, RunsLine, Runs};
+ghost use Rattle.tables.specs.Numbers.{number_of, known, Numbered};
 ghost use Rattle.tables.specs.Hex.{is_digit, value_of, is_hex, all_digits, pair_at, bytes_in, unhex, hex_text, most_shown};
 
 use std::io;
@@ -143,6 +144,22 @@ fn is_row(line: &[u8], input: &[u8], most: usize) -> bool
     places_of(line).expected < line.len() && is_hex(input) && input.len() / 2 <= most
 }
 
+// What a line that is no comment is, by its fields and by what its name means.
+fn row_line<'a, O: Copy>(
+    line: &[u8],
+    row: Row<'a>,
+    operation: Option<O>,
+    most: usize,
+) -> Line<'a, O>
+    requires { (is_comment line.now ≡ false) × (fields row ≡ row_of line.now) }
+    ensures { IsLine (λ _ named. named ≡ operation) line.now most result }
+{
+    match operation {
+        Some(operation) if is_row(line, row.input, most) => Line::Row(operation, row),
+        _ => Line::Bad,
+    }
+}
+
 // What a line is, with its line feed. A row has five fields and the name of an operation, and its bytes in are at most so many.
 pub fn line_of<O: Named>(line: &[u8], most: usize) -> Line<'_, O>
     ensures { IsLine O.names line.now most result }
@@ -151,10 +168,39 @@ pub fn line_of<O: Named>(line: &[u8], most: usize) -> Line<'_, O>
         return Line::Comment;
     }
     let row = row_of(line);
-    match O::named(row.operation) {
-        Some(operation) if is_row(line, row.input, most) => Line::Row(operation, row),
-        _ => Line::Bad,
+    row_line(line, row, O::named(row.operation), most)
+}
+
+// No operation has it.
+const UNKNOWN: u8 = 255;
+
+// The number of a name, by its place among names; a tab ends each of them, and it too.
+fn number_of(name: &[u8], names: &[u8]) -> Option<u8>
+    ensures { result ≡ known (number_of name.now names.now) }
+{
+    let mut number: u8 = 0;
+    let mut rest = names;
+    while !rest.is_empty() {
+        let (first, others) = rest.split_at(past(rest, 0, TAB));
+        if lists::same(name, first) {
+            return (number < UNKNOWN).then_some(number);
+        }
+        number = number.wrapping_add(1);
+        rest = others;
     }
+    None
+}
+
+// What a line is, where the names of operations are given as text, a tab behind each: an operation is told by its place among them.
+pub fn numbered_line_of<'a>(line: &'a [u8], names: &[u8], most: usize) -> Line<'a, u8>
+    ensures { IsLine (Numbered names.now) line.now most result }
+{
+    if is_comment(line) {
+        return Line::Comment;
+    }
+    let places = places_of(line);
+    let number = number_of(part(line, places.operation, places.input), names);
+    row_line(line, row_of(line), number, most)
 }
 
 // The byte that a pair of digits says.
