@@ -151,7 +151,9 @@ fn refuse(link: Link, refusal: Refusal) -> Next
     }
 }
 
-// A call that is no send: refused, or carried out as this turn of the record after the silence and dead time checks.
+// A call that is no send: refused, or carried out as this turn of the record after the silence and dead time checks. In line with the
+// call: out of line the record and what is told, some 170 bytes, are copied once more.
+#[inline(always)]
 fn carry_out<F: FnOnce(Receiver) -> Turn>(link: Link, tick: u32, buffer: &mut [u8], turn: F) -> Next
     requires { F.IsAlwaysCallable turn }
     ensures { (m : Move) → ((r : Receiver) (t : Turn) → r.link ≡ checked link tick → F.post turn r t → moved t ≡ m) → came result.link result.told buffer.new ≡ call (checks link (length buffer.old)) link (lost link.phase link.last tick) m buffer.old }
@@ -191,6 +193,7 @@ pub fn byte(link: Link, byte: u8, tick: u32, buffer: &mut [u8]) -> Next
 
 // Time has passed. Silence, 250 ms without activity, is found by a call only, and a send does not tell it: where no byte comes, this is
 // to be called, well within each 250 ms.
+#[inline(always)]
 pub fn poll(link: Link, tick: u32, buffer: &mut [u8]) -> Next
     ensures { came result.link result.told buffer.new ≡ poll_step link tick buffer.old }
 {
