@@ -3,7 +3,6 @@
 #![tactic(auto)]
 
 ghost use Rattle.std.specs.Prelude.{◌≡◌, length, replicate};
-ghost use Rattle.loader_answers.specs.Reply.{longest_answer};
 ghost use Rattle.listing_report.specs.Listing.{fresh_listing};
 
 use listing_report::{ListError, Listing};
@@ -63,7 +62,7 @@ impl Lister {
     fn new() -> Lister
         ensures fresh { result.listing ≡ fresh_listing }
         ensures packet { length result.packet ≡ 4120 }
-        ensures answer { length result.answer ≡ longest_answer }
+        ensures answer { length result.answer ≡ 54 }
         ensures flash { length result.flash ≡ 65536 }
         ensures words { length result.words ≡ 4096 }
         ensures erased { result.flash ≡ replicate (length result.flash) 0xFF }
