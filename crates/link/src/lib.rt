@@ -152,7 +152,7 @@ fn refuse(link: Link, refusal: Refusal) -> Next
 }
 
 // A call that is no send: refused, or carried out as this turn of the record after the silence and dead time checks. In line with the
-// call: out of line the record and what is told, some 170 bytes, are copied once more.
+// call, as `poll` is: out of line a poll that finds bytes of a frame held runs an eighth more instructions.
 #[inline(always)]
 fn carry_out<F: FnOnce(Receiver) -> Turn>(link: Link, tick: u32, buffer: &mut [u8], turn: F) -> Next
     requires { F.IsAlwaysCallable turn }
